@@ -16,7 +16,7 @@ const IN_B: &str = "edit_all_test/b/BUILD.bazel";
 /// The text of both files at first, and what is read of the package `-`.
 const OLD: &str = "r(name = \"x\")\n";
 
-/// The same where `n` is set.
+/// The text of both files where `n` was set.
 const NEW: &str = "r(\n    name = \"x\",\n    n = 1,\n)\n";
 
 /// What is told of a package without a file.

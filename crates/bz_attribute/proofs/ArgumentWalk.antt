@@ -22,7 +22,7 @@ rule_arguments s r ps h = record {
   end = r.end;
   one_comma = r.one_comma;
   after = beside_part s.suffix;
-  are = h.are ∙ parts_cut s r (rule_nodes [] s.nodes r h.rule) ∙ ap (λ (qs : List RowPart). before_args s r ++ (segs_parts (segs_of r.args) ++ qs)) (append_assoc (map above r.end) (closing r.one_comma ∷ []) (beside_part s.suffix));
+  are = h.are ∙ parts_cut s r (rule_nodes s.nodes r h.rule) ∙ ap (λ (qs : List RowPart). before_args s r ++ (segs_parts (segs_of r.args) ++ qs)) (append_assoc (map above r.end) (closing r.one_comma ∷ []) (beside_part s.suffix));
   begin = sym (all_begin s r ps h ∙ ap length (append-nil (before_args s r)));
 }
 

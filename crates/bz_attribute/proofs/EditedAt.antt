@@ -4,7 +4,8 @@ use Rattle.std.specs.List.{list_any}
 use Rattle.bz_tree.specs.Tree.{Item, Segment, Statement, items_of, segs_of}
 use Rattle.bz_tree.specs.Rows.{RowPart, segment_end, above, beside_part, items_parts, segs_parts}
 use Rattle.bz_attribute.specs.Rules.{Rule, rule_of, is_named, first_named}
-use Rattle.bz_attribute.specs.Effects.{edit_first, has, nodes_after, nodes_of, with_args}
+use Rattle.bz_attribute.specs.Effects.{edit_first, has, nodes_of, with_args}
+use Rattle.bz_attribute.specs.private.RuleNodes.{nodes_after}
 
 pub segs_join : (xs ys : List Segment) → segs_parts (segs_of (xs ++ ys)) ≡ segs_parts (segs_of xs) ++ segs_parts (segs_of ys)
 segs_join [] ys = refl

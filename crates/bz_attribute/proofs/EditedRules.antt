@@ -3,16 +3,18 @@ use Rattle.std.proofs.Common.{◌≡◌, List, [], true, Some, None, option_map,
 use Rattle.bz_tree.specs.declared.tree.GroupKind.TheVariants.{RuleCall}
 use Rattle.bz_tree.specs.Rows.{RowPart, parts_of}
 use Rattle.bz_tree.specs.Tree.{Item, group, Segment, Statement, segs_of}
-use Rattle.bz_attribute.specs.Effects.{nodes_after, nodes_of, with_args}
+use Rattle.bz_attribute.specs.Effects.{nodes_of, with_args}
+use Rattle.bz_attribute.specs.private.RuleNodes.{nodes_after}
 use Rattle.bz_attribute.specs.RowPlaces.{IsRuleRow}
-use Rattle.bz_attribute.specs.Rules.{Rule, dotted, rule_of}
-use Rattle.bz_attribute.proofs.Calls.{rule_from_end}
+use Rattle.bz_attribute.specs.Rules.{Rule, rule_of}
+use Rattle.bz_attribute.specs.private.RuleSteps.{dotted}
+use Rattle.bz_attribute.proofs.Calls.{rule_at_end}
 use Rattle.bz_attribute.proofs.RuleParts.{rule_dotted}
 use Rattle.bz_attribute.proofs.Views.{segments_of}
 
 -- the nodes of a rule are read as this rule
 pub nodes_read : (r : Rule) → dotted true r.kind ≡ true → rule_of (nodes_of r) ≡ Some r
-nodes_read r dots = rule_from_end [] r.kind (group RuleCall (segs_of r.args) r.one_comma r.end) ∙ rw (dots, segments_of r.args) refl
+nodes_read r dots = rule_at_end r.kind (group RuleCall (segs_of r.args) r.one_comma r.end) ∙ rw (dots, segments_of r.args) refl
 
 abbrev pub rule_with : (List Segment → List Segment) → Rule → Rule
 rule_with f r = record r { args = f r.args }
@@ -21,7 +23,7 @@ rule_with f r = record r { args = f r.args }
 pub rule_after : (f : List Segment → List Segment) (s : Statement) → rule_of (with_args f s).nodes ≡ option_map (rule_with f) (rule_of s.nodes)
 rule_after f s =
     elim (rule_of s.nodes) as (λ o. rule_of s.nodes ≡ o → rule_of (nodes_after f s.nodes o) ≡ option_map (rule_with f) o)
-    [ None ↦ λ e. e | Some r ↦ λ e. nodes_read (rule_with f r) (rule_dotted [] s.nodes r e) ] refl
+    [ None ↦ λ e. e | Some r ↦ λ e. nodes_read (rule_with f r) (rule_dotted s.nodes r e) ] refl
 
 -- one edit after another
 pub with_args_twice : (f h : List Segment → List Segment) (s : Statement) → with_args f (with_args h s) ≡ with_args (λ args. f (h args)) s

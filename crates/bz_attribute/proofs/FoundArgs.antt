@@ -2,9 +2,9 @@
 use Rattle.std.proofs.Common.{◌≡◌, List, [], ◌∷◌, ◌++◌, ℕ, Bool, true, false, if◌then◌else◌, Option, None, map, refl, sym, append_assoc}
 use Rattle.std.specs.Prelude.{codes}
 use Rattle.bz_tree.specs.declared.tree.GroupKind.{GroupKind}
-use Rattle.bz_tree.specs.Tree.{Item, leaf, group, Segs, Segment, items_of, segs_of}
+use Rattle.bz_tree.specs.Tree.{Item, leaf, group, Segs, Segment, items_of, segs_of, is_operator_item}
 use Rattle.bz_tree.specs.Rows.{RowPart, segment_end, above, beside_part, items_parts, segs_parts}
-use Rattle.bz_attribute.specs.Rules.{name_of, is_operator_item}
+use Rattle.bz_attribute.specs.Rules.{name_of}
 use Rattle.bz_token.specs.declared.token.Kind.TheVariants.{Identifier, Operator}
 use Rattle.bz_attribute.specs.private.Parts.{flat_name}
 

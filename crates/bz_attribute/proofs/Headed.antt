@@ -6,12 +6,14 @@ use Rattle.bz_token.specs.declared.token.Kind.TheVariants.{Identifier, Operator}
 use Rattle.bz_tree.specs.declared.tree.GroupKind.{GroupKind}
 use Rattle.bz_tree.specs.declared.tree.GroupKind.TheVariants.{RuleCall}
 use Rattle.bz_tree.specs.declared.tree.Class.TheVariants.{Rule as RuleClass, Block, Load as LoadClass, Assign, Other as OtherClass}
-use Rattle.bz_tree.specs.Tree.{Item, leaf, group, Segs, Statement, items_of, segments, segs_of}
-use Rattle.bz_tree.specs.Statement.{class_of, is_assign_operator, is_rule, is_rule_after, is_kept, is_load_word, is_call as is_call_kind, is_assign}
+use Rattle.bz_tree.specs.Tree.{Item, leaf, group, Segs, Statement, items_of, segments, segs_of, is_rule, is_rule_after, is_call as is_call_kind}
+use Rattle.bz_tree.specs.Statement.{class_of, is_kept, is_load_word, is_assign}
+use Rattle.bz_tree.specs.private.KindSteps.{is_assign_operator}
 use Rattle.bz_tree.specs.Rows.{RowPart, opening, closing, above, beside_part, item_parts, items_parts, segs_parts, parts_of}
-use Rattle.bz_attribute.specs.Rules.{Rule, rule_of, call_at, kind_text, dotted}
+use Rattle.bz_attribute.specs.Rules.{Rule, rule_of, kind_text}
+use Rattle.bz_attribute.specs.private.RuleSteps.{call_at, dotted}
 use Rattle.bz_attribute.specs.private.Parts.{above_len, opens_call, token_texts, tokens_len}
-use Rattle.bz_attribute.proofs.Calls.{rule_from_end, no_call, is_rule_call}
+use Rattle.bz_attribute.proofs.Calls.{goes_on, rule_at_end, no_call, is_rule_call}
 use Rattle.bz_attribute.proofs.RuleNodes.{rule_nodes}
 use Rattle.bz_attribute.proofs.Lengths.{above_passed, none_above}
 use Rattle.bz_attribute.proofs.RuleParts.{AreTokens, rule_dotted, tokens, tokens_long, with_last}
@@ -34,11 +36,6 @@ class_called (x ∷ xs) h =
         ]
       ]
     ] h
-
--- A rule by its class: an identifier comes next, or with `false` a dot or the call
-abbrev goes_on : Bool → List Item → Bool
-goes_on true nodes = is_rule nodes
-goes_on false nodes = is_rule_after nodes
 
 no_assign : (b : Bool) (kind : List Item) (k : GroupKind) (segs : Segs) (one_comma : Bool) (end : List (List ℕ)) → dotted b kind ≡ true → list_any is_assign (kind ++ group k segs one_comma end ∷ []) ≡ false
 no_assign b [] k segs one_comma end h = refl
@@ -72,7 +69,7 @@ class_at (group l ss o e ∷ xs) segs one_comma end h = absurd (false≢true h)
 
 -- a rule has the class of one
 pub rule_class : (nodes : List Item) (r : Rule) → rule_of nodes ≡ Some r → class_of nodes ≡ RuleClass
-rule_class nodes r is = ap class_of (sym (rule_nodes [] nodes r is)) ∙ class_at r.kind (segs_of r.args) r.one_comma r.end (rule_dotted [] nodes r is)
+rule_class nodes r is = ap class_of (sym (rule_nodes nodes r is)) ∙ class_at r.kind (segs_of r.args) r.one_comma r.end (rule_dotted nodes r is)
 
 -- the tokens before the call, and the call
 record IsCalled (b : Bool) (nodes : List Item) : Type 0 where
@@ -83,10 +80,6 @@ record IsCalled (b : Bool) (nodes : List Item) : Type 0 where
   end : List (List ℕ)
   are : nodes ≡ kind ++ group k segs one_comma end ∷ []
   dots : dotted b kind ≡ true
-
-nothing_is : (xs : List Item) → is_empty xs ≡ true → xs ≡ []
-nothing_is [] h = refl
-nothing_is (x ∷ xs) h = absurd (false≢true h)
 
 one_before : (b c : Bool) (x : Item) (xs : List Item) → ((kind : List Item) → dotted c kind ≡ true → dotted b (x ∷ kind) ≡ true) → IsCalled c xs → IsCalled b (x ∷ xs)
 one_before b c x xs goes h = record { kind = x ∷ h.kind; k = h.k; segs = h.segs; one_comma = h.one_comma; end = h.end; are = ap (λ (ys : List Item). x ∷ ys) h.are; dots = goes h.kind h.dots }
@@ -101,9 +94,8 @@ called false (leaf Operator text ∷ xs) h =
     let two = and_parts (bytes_eq text (codes ".")) (is_rule xs) h in
     one_before false true (leaf Operator text) xs (λ kind dots. ap (λ (b : Bool). b && dotted true kind) two.0 ∙ dots) (called true xs two.1)
 called false (leaf _ text ∷ xs) h = absurd (false≢true h)
-called false (group k segs one_comma end ∷ xs) h =
-    let two = and_parts (is_call_kind k) (is_empty xs) h in
-    record { kind = []; k = k; segs = segs; one_comma = one_comma; end = end; are = ap (λ (ys : List Item). group k segs one_comma end ∷ ys) (nothing_is xs two.1); dots = refl }
+called false (group k segs one_comma end ∷ []) h = record { kind = []; k = k; segs = segs; one_comma = one_comma; end = end; are = refl; dots = refl }
+called false (group k segs one_comma end ∷ y ∷ ys) h = absurd (false≢true h)
 
 texts_joined : (kind : List Item) (k : GroupKind) (rest : List RowPart) → AreTokens kind → token_texts (items_parts (items_of kind) ++ opening k ∷ rest) ≡ kind_text kind
 texts_joined [] k rest h = refl
@@ -165,7 +157,7 @@ headed s class h =
     let rule : Rule = record { kind = c.kind; args = segments c.segs; one_comma = c.one_comma; end = c.end } in
     record {
       rule = rule;
-      is = ap rule_of c.are ∙ rule_from_end [] c.kind (group c.k c.segs c.one_comma c.end) ∙ (λ i. call_at c.kind (group (call i) c.segs c.one_comma c.end)) ∙ ap (λ (b : Bool). if b then Some rule else None) c.dots;
+      is = ap rule_of c.are ∙ rule_at_end c.kind (group c.k c.segs c.one_comma c.end) ∙ (λ i. call_at c.kind (group (call i) c.segs c.one_comma c.end)) ∙ ap (λ (b : Bool). if b then Some rule else None) c.dots;
       kind_is = ap token_texts (begin s c) ∙ texts_joined c.kind c.k (inside s c) (tokens true c.kind c.dots);
     }
 
@@ -173,7 +165,7 @@ headed s class h =
 pub no_head : (s : Statement) → class_of s.nodes ≡ RuleClass → opens_call (after_tokens (after_comments (parts_of s))) ≡ false → rule_of s.nodes ≡ None
 no_head s class h =
     let c = called true s.nodes (class_called s.nodes class) in
-    ap rule_of c.are ∙ rule_from_end [] c.kind (group c.k c.segs c.one_comma c.end)
+    ap rule_of c.are ∙ rule_at_end c.kind (group c.k c.segs c.one_comma c.end)
     ∙ no_call c.kind (group c.k c.segs c.one_comma c.end) (unopened c.k (inside s c) c.segs c.one_comma c.end (sym (open_at s c) ∙ h))
 
 no_rule : (nodes : List Item) (o : Option Rule) → rule_of nodes ≡ o → (class_of nodes ≡ RuleClass → ⊥) → o ≡ None

@@ -11,6 +11,7 @@ use Rattle.bz_tree.specs.Tree.{Item, leaf, group, Segs, items_of, segs_of, segme
 use Rattle.bz_tree.specs.Rows.{RowPart, part_view, a_token, opening, closing, segment_end, above, item_parts, items_parts, segs_parts}
 use Rattle.bz_attribute.specs.Elements.{ListRest, rest_parts, value_parts}
 use Rattle.bz_attribute.specs.Lists as lists
+use Rattle.bz_attribute.specs.ListWalk as walk
 use Rattle.bz_attribute.specs.private.Parts.{ItemEnds, ends_piece, is_end, is_joint, is_open, is_plus, opens_list, parts_len}
 use Rattle.bz_attribute.proofs.Lengths.{segs_ended}
 use Rattle.bz_tree.proofs.Rows.FromParts.{segs_back}
@@ -28,7 +29,7 @@ plus_told : (x : Item) → is_plus (first_of x) ≡ lists.is_plus x
 plus_told (leaf kind text) = refl
 plus_told (group kind segs one_comma end) = refl
 
-list_told : (x : Item) → opens_list (first_of x) ≡ lists.is_list x
+list_told : (x : Item) → opens_list (first_of x) ≡ walk.is_list x
 list_told (leaf kind text) = refl
 list_told (group ListKind segs one_comma end) = refl
 list_told (group _ segs one_comma end) = refl
@@ -88,7 +89,7 @@ pub record IsItemAt (nodes : List Item) (after ps : List RowPart) (at : ℕ) (p 
   pub are : nodes ≡ x ∷ xs
   pub joint : is_joint p ≡ lists.is_joint x
   pub plus : is_plus p ≡ lists.is_plus x
-  pub list : opens_list p ≡ lists.is_list x
+  pub list : opens_list p ≡ walk.is_list x
   pub long : (end : ℕ) → ItemEnds ps at end → end ≡ at + length (item_parts x)
   pub next : (end : ℕ) → ItemEnds ps at end → drop end ps ≡ value_parts xs after
 
@@ -135,7 +136,7 @@ none_after nodes after ps at read h =
     absurd (omega (arith, some_parts nodes after, ap length (sym read ∙ none)))
 
 -- a piece ends after an item
-pub piece_told : (xs : List Item) (after : List RowPart) → ends_piece (value_parts xs after) ≡ lists.ends xs
+pub piece_told : (xs : List Item) (after : List RowPart) → ends_piece (value_parts xs after) ≡ walk.ends xs
 piece_told [] after = refl
 piece_told (leaf kind text ∷ xs) after = refl
 piece_told (group kind segs one_comma end ∷ xs) after = refl

@@ -28,13 +28,13 @@ kind_at s r ps from to h from_is to_is =
     let comments : List RowPart = map above s.before in
     let kind : List RowPart = items_parts (items_of r.kind) in
     let call : List RowPart = call_parts s r in
-    let nodes : nodes_of r ≡ s.nodes = rule_nodes [] s.nodes r h.rule in
+    let nodes : nodes_of r ≡ s.nodes = rule_nodes s.nodes r h.rule in
     let all : ps ≡ comments ++ (kind ++ call) = h.are ∙ in_three s r nodes in
     let joined : comments ++ (kind ++ call) ≡ (comments ++ kind) ++ call = sym (append_assoc comments kind call) in
     let starts : from ≡ length comments =
     omega (arith, from_is ∙ ap above_len all ∙ above_passed s.before (kind ++ call), none_above r.kind RuleCall (segs_parts (segs_of r.args) ++ after_args s r), length-map s.before above) in
     let dropped : drop from ps ≡ kind ++ call = (λ i. drop (starts i) (all i)) ∙ drop-append_seam comments (kind ++ call) in
-    let long : tokens_len (drop from ps) ≡ length kind = ap tokens_len dropped ∙ tokens_long r.kind RuleCall _ (tokens true r.kind (rule_dotted [] s.nodes r h.rule)) in
+    let long : tokens_len (drop from ps) ≡ length kind = ap tokens_len dropped ∙ tokens_long r.kind RuleCall _ (tokens true r.kind (rule_dotted s.nodes r h.rule)) in
     let ends : to ≡ length (comments ++ kind) = omega (arith, to_is, long, starts, length-append comments kind) in
     let taken : take from ps ≡ comments = (λ i. take (starts i) (all i)) ∙ take-append_seam comments (kind ++ call) in
     let left : drop to ps ≡ call = (λ i. drop (ends i) ((all ∙ joined) i)) ∙ drop-append_seam (comments ++ kind) call in

@@ -5,6 +5,7 @@ pub mod EditedRules
 pub mod ElementSearch
 pub mod EndsApart
 pub mod EndsBack
+mod Examples
 pub mod First
 pub mod FirstArguments
 pub mod FoundArgs
@@ -17,6 +18,7 @@ pub mod LabelsFound
 pub mod Lengths
 pub mod ListEdits
 pub mod ListElements
+pub mod ListPieces
 pub mod ListWalk
 pub mod LiteralEnds
 pub mod Locals
@@ -24,6 +26,7 @@ pub mod Mapped
 pub mod OnlyLists
 pub mod PlaceFound
 pub mod RowEdits
+mod RuleExamples
 pub mod RuleNodes
 pub mod RuleParts
 pub mod Slices

@@ -4,9 +4,8 @@ use Rattle.std.proofs.Math.Seq.{drop-append_seam, take-append_seam}
 use Rattle.bz_tree.specs.declared.tree.GroupKind.TheVariants.{List as ListKind}
 use Rattle.bz_tree.specs.Tree.{Item, Segment, items_of, segs_of}
 use Rattle.bz_tree.specs.Rows.{RowPart, above, closing, opening, segment_end, item_parts, items_parts, segs_parts}
-use Rattle.bz_attribute.specs.Effects.{edit_element}
+use Rattle.bz_attribute.specs.ListWalk.{edit_element, edit_first_part}
 use Rattle.bz_attribute.specs.Elements.{IsListIn, ListRest, found_rest, list_item, rest_parts, value_parts}
-use Rattle.bz_attribute.specs.Lists.{edit_first_part}
 use Rattle.bz_attribute.proofs.EditedAt.{segs_join}
 
 -- items one after another

@@ -8,7 +8,8 @@ use Rattle.bz_tree.specs.Tree.{Item, leaf, group, Segment, Statement, items_of, 
 use Rattle.bz_tree.specs.Rows.{RowPart, a_token, closing, segment_end, above, beside, beside_part, items_parts, segs_parts}
 use Rattle.bz_token.specs.declared.token.Kind.TheVariants.{String}
 use Rattle.bz_attribute.specs.Elements.{AreElementsTo, IsElementOf, IsValueAt, ListRest, rest_parts, value_parts}
-use Rattle.bz_attribute.specs.Effects.{edit_first, has, with_args, nodes_after, nodes_of}
+use Rattle.bz_attribute.specs.Effects.{edit_first, has, with_args, nodes_of}
+use Rattle.bz_attribute.specs.private.RuleNodes.{nodes_after}
 use Rattle.bz_attribute.specs.Lists.{with_value}
 use Rattle.bz_attribute.specs.RowPlaces.{IsArgumentAt, IsRuleRow}
 use Rattle.bz_attribute.specs.Rules.{Rule, first_named, is_named, is_text, name_in, name_of, only_text, string_value, value}
@@ -195,7 +196,7 @@ value_there name s r ps at to h f to_is =
     let nodes : (v : List Item) → items_parts (items_of (n.name ∷ n.operator ∷ v)) ++ segment_end ∷ after ≡ two ++ value_parts v after = λ v. ap (λ (qs : List RowPart). qs ++ segment_end ∷ after) (n.parts v) in
     let own : items_parts (items_of a.nodes) ++ segment_end ∷ after ≡ two ++ value_parts (value a) after = ap (λ (xs : List Item). items_parts (items_of xs) ++ segment_end ∷ after) n.are ∙ nodes (value a) in
     let all : ps ≡ front ++ value_parts (value a) after =
-    h.are ∙ in_three s r f.front (a ∷ []) f.back (rule_nodes [] s.nodes r h.rule) f.are ∙ nodes_split s r f.front f.back a
+    h.are ∙ in_three s r f.front (a ∷ []) f.back (rule_nodes s.nodes r h.rule) f.are ∙ nodes_split s r f.front f.back a
     ∙ ap (λ (qs : List RowPart). first ++ qs) own ∙ sym (append_assoc first two (value_parts (value a) after)) in
     let begins : at + 2 ≡ length front =
     omega (arith, f.begins, length-append first two, length-append (pre s r f.front) (map above a.before)) in

@@ -2,22 +2,25 @@
 use Rattle.std.proofs.Common.{◌≡◌, ℕ, ◌+◌, ◌<◌, ◌≤◌, List, [], ◌∷◌, ◌++◌, Bool, true, false, ◌&&◌, if◌then◌else◌, map, length, drop, get_or, refl, ap, sym, ◌∙◌, subst, arith, append_assoc, length-append, drop-drop}
 use Rattle.std.specs.List.{list_all, list_any}
 use Rattle.std.proofs.lemmas.Bool.{false≢true}
-use Rattle.std.specs.Prelude.{Option, Some, None, IfSome, IfNone}
+use Rattle.std.specs.Prelude.{Option, Some, None, is_some, IfSome, IfNone}
 use Rattle.bz_tree.specs.declared.row.Part.{Part}
 use Rattle.bz_tree.specs.declared.tree.GroupKind.TheVariants.{List as ListKind}
 use Rattle.bz_tree.specs.Tree.{Item, leaf, group, Segs, Segment, items_of, segments}
 use Rattle.bz_tree.specs.Rows.{RowPart, part_view, item_parts, items_parts}
-use Rattle.bz_attribute.specs.Effects.{edit_first, edit_element_from}
+use Rattle.bz_attribute.specs.Effects.{edit_first}
+use Rattle.bz_attribute.specs.ListWalk.{is_list, edit_element_from, edit_from, edit_list, edit_one_from, parts_from}
 use Rattle.bz_attribute.specs.Elements.{HasNoList, IsListIn, ListRest, edit_element_in, edit_in, edit_one_in, found_rest, list_item, lists_in, value_parts}
-use Rattle.bz_attribute.specs.Lists.{edit_from, edit_list, edit_one_from, is_list, parts_from}
+use Rattle.bz_attribute.specs.Lists.{only_list}
 use Rattle.bz_attribute.specs.Lists as lists
+use Rattle.bz_attribute.specs.ListWalk as walk
+use Rattle.bz_attribute.proofs.ListPieces.{parts_are, edit_parts_are, edit_first_part_is, edit_element_is, only_is}
 use Rattle.bz_attribute.specs.private.Parts.{is_end, ItemEnds, ends_piece, is_joint, is_plus, opens_list}
 use Rattle.bz_attribute.proofs.ItemParts.{item_at, none_after, none_at, opened, piece_told, rest_of}
 use Rattle.bz_tree.proofs.Rows.FromParts.{segs_back}
 
 -- an edit of items, of which `start` says whether a piece begins with the first: where that is no list part, it stays
 abbrev pub KeepsOthers : (Bool → List Item → List Item) → Type 0
-KeepsOthers e = (start : Bool) (x : Item) (xs : List Item) → lists.is_part start x xs ≡ false → e start (x ∷ xs) ≡ x ∷ e (lists.is_plus x) xs
+KeepsOthers e = (start : Bool) (x : Item) (xs : List Item) → walk.is_part start x xs ≡ false → e start (x ∷ xs) ≡ x ∷ e (lists.is_plus x) xs
 
 -- Of nodes that begin at `from`, those before `at` are no list parts. A piece begins there where `start`.
 pub record IsWalked (whole start : Bool) (nodes : List Item) (after ps : List RowPart) (from at : ℕ) : Type 0 where
@@ -26,7 +29,7 @@ pub record IsWalked (whole start : Bool) (nodes : List Item) (after ps : List Ro
   pub are : nodes ≡ front ++ back
   pub place : at ≡ from + length (items_parts (items_of front))
   pub read : drop at ps ≡ value_parts back after
-  pub lists : lists.parts_from whole nodes ≡ lists.parts_from start back
+  pub lists : walk.parts_from whole nodes ≡ walk.parts_from start back
   pub others : (e : Bool → List Item → List Item) → KeepsOthers e → e whole nodes ≡ front ++ e start back
 
 abbrev pub HasWalked : Bool → Bool → List RowPart → ℕ → ℕ → Type 0
@@ -79,7 +82,7 @@ pub walk_passes : (whole start next : Bool) (ps : List Part) (from at end : ℕ)
 walk_passes whole start next ps from at end d w h more none plus end_is = λ nodes after read.
     let k = w nodes after read in
     let i = item_at k.back after ps at d k.read h more in
-    let no_part : lists.is_part start i.x i.xs ≡ false = (λ j. start && sym i.list j && (sym (piece_told i.xs after) ∙ ap ends_piece (sym (i.next end end_is))) j) ∙ none in
+    let no_part : walk.is_part start i.x i.xs ≡ false = (λ j. start && sym i.list j && (sym (piece_told i.xs after) ∙ ap ends_piece (sym (i.next end end_is))) j) ∙ none in
     let is_next : next ≡ lists.is_plus i.x = plus ∙ i.plus in
     record {
       front = k.front ++ i.x ∷ [];
@@ -108,19 +111,19 @@ abbrev Joined : Bool → List Item → Type 0
 Joined whole nodes = whole ≡ true → list_all lists.is_joint nodes ≡ true
 
 all_lists : (whole : Bool) (nodes : List Item) → Joined whole nodes → lists_in whole nodes ≡ parts_from whole nodes
-all_lists true nodes h = rw (h refl) refl
+all_lists true nodes h = parts_are nodes ∙ rw (h refl) refl
 all_lists false nodes h = refl
 
 all_edited : (whole : Bool) (f : List Segment → List Segment) (nodes : List Item) → Joined whole nodes → edit_in whole f nodes ≡ edit_from f whole nodes
-all_edited true f nodes h = rw (h refl) refl
+all_edited true f nodes h = edit_parts_are f nodes ∙ rw (h refl) refl
 all_edited false f nodes h = refl
 
 one_edited : (whole : Bool) (f : List Segment → List Segment) (nodes : List Item) → Joined whole nodes → edit_one_in whole f nodes ≡ edit_one_from f whole nodes
-one_edited true f nodes h = rw (h refl) refl
+one_edited true f nodes h = edit_first_part_is f nodes ∙ rw (h refl) refl
 one_edited false f nodes h = refl
 
 found_edited : (whole : Bool) (p : Segment → Bool) (f : Segment → Segment) (nodes : List Item) → Joined whole nodes → edit_element_in whole p f nodes ≡ edit_element_from p f whole nodes
-found_edited true p f nodes h = rw (h refl) refl
+found_edited true p f nodes h = edit_element_is p f nodes ∙ rw (h refl) refl
 found_edited false p f nodes h = refl
 
 -- the end
@@ -151,7 +154,7 @@ list_is (group ListKind segs one_comma end) h = record { segs = segs; one_comma 
 list_is (group _ segs one_comma end) h = absurd cc
 list_is (leaf kind text) h = absurd cc
 
-pub found_here : (p : Segment → Bool) (f : Segment → Segment) (segs : Segs) (one_comma : Bool) (end : List (List ℕ)) (xs : List Item) → lists.ends xs ≡ true
+pub found_here : (p : Segment → Bool) (f : Segment → Segment) (segs : Segs) (one_comma : Bool) (end : List (List ℕ)) (xs : List Item) → walk.ends xs ≡ true
     → edit_element_from p f true (group ListKind segs one_comma end ∷ xs) ≡ list_item (found_rest p f (rest_of segs one_comma end xs)) ∷ (found_rest p f (rest_of segs one_comma end xs)).items
 found_here p f segs one_comma end xs ends =
     let x : Item = group ListKind segs one_comma end in
@@ -164,12 +167,12 @@ found_here p f segs one_comma end xs ends =
     [ true ↦ refl | false ↦ ap (λ (ss : Segs). group ListKind ss one_comma end ∷ after) (sym (segs_back segs)) ]
 
 here : (whole : Bool) (nodes : List Item) (after ps : List RowPart) (from at : ℕ) (xs : List Item) (segs : Segs) (one_comma : Bool) (end : List (List ℕ))
-    → (w : IsWalked whole true nodes after ps from at) → w.back ≡ group ListKind segs one_comma end ∷ xs → lists.ends xs ≡ true → Joined whole nodes → IsListIn whole nodes after ps from (at + 1)
+    → (w : IsWalked whole true nodes after ps from at) → w.back ≡ group ListKind segs one_comma end ∷ xs → walk.ends xs ≡ true → Joined whole nodes → IsListIn whole nodes after ps from (at + 1)
 here whole nodes after ps from at xs segs one_comma end w back ends joined =
     let x : Item = group ListKind segs one_comma end in
     let list : ListRest = rest_of segs one_comma end xs in
     let same : list_item list ≡ x = ap (λ (ss : Segs). group ListKind ss one_comma end) (segs_back segs) in
-    let part : lists.is_part true x xs ≡ true = ends in
+    let part : walk.is_part true x xs ≡ true = ends in
     record {
       front = w.front;
       list = list;
@@ -195,14 +198,14 @@ list_here whole start ps from at end d nodes after w h more starts opens piece e
     here whole nodes after (map part_view ps) from at i.xs l.segs l.one_comma l.end k (i.are ∙ ap (λ (y : Item). y ∷ i.xs) l.is) (sym (piece_told i.xs after) ∙ ap ends_piece (sym (i.next end end_is)) ∙ piece) joined
 
 -- where it is the only item
-pub only_here : (nodes : List Item) (after ps : List RowPart) (from to : ℕ) → drop from ps ≡ value_parts nodes after → to ≡ from + 1 → lists.is_only is_list nodes ≡ true → IsListIn true nodes after ps from to
+pub only_here : (nodes : List Item) (after ps : List RowPart) (from to : ℕ) → drop from ps ≡ value_parts nodes after → to ≡ from + 1 → is_some (only_list nodes) ≡ true → IsListIn true nodes after ps from to
 only_here [] after ps from to read to_is is = absurd (false≢true is)
 only_here (x ∷ []) after ps from to read to_is is =
-    let l = list_is x is in
+    let l = list_is x (sym (only_is (x ∷ [])) ∙ is) in
     let start : IsWalked true true (x ∷ []) after ps from from = record { front = []; back = x ∷ []; are = refl; place = omega arith; read = read; lists = refl; others = λ e keeps. refl } in
     let joint : list_all lists.is_joint (x ∷ []) ≡ true = ap (λ (y : Item). list_all lists.is_joint (y ∷ [])) l.is in
     subst (IsListIn true (x ∷ []) after ps from) (sym to_is) (here true (x ∷ []) after ps from from [] l.segs l.one_comma l.end start (ap (λ (y : Item). y ∷ []) l.is) refl (λ h. joint))
-only_here (x ∷ y ∷ xs) after ps from to read to_is is = absurd (false≢true is)
+only_here (x ∷ y ∷ xs) after ps from to read to_is is = absurd (false≢true (sym (only_is (x ∷ y ∷ xs)) ∙ is))
 
 -- an answer that tells more
 pub some_as : {A : Type 0} (P Q : A → Type 0) (o : Option A) → ((n : A) → P n → Q n) → IfSome o P → IfSome o Q

@@ -3,13 +3,15 @@ use Rattle.std.proofs.Common.{◌≡◌, ℕ, ◌-◌, ◌≤◌, ◌==◌, ◌&
 use Rattle.std.specs.Prelude.{option_map, ◌⊎◌}
 use Rattle.std.specs.List.{concat, list_all, list_any, starts_with}
 use Rattle.std.proofs.lemmas.Bool.{cases_Bool, and_parts, or_parts, eq-eqb, ne_eqb}
+use Rattle.std.proofs.lemmas.Bool.Decides.{nat_tests}
 use Rattle.std.proofs.lemmas.List.{same_from_push, take-append-drop}
 use Rattle.bz_token.specs.Common.{map_or}
-use Rattle.bz_token.specs.Pieces.{is_quote}
+use Rattle.bz_token.specs.Strings.{is_quote}
 use Rattle.bz_token.proofs.Classes.{same_bytes}
 use Rattle.bz_label.specs.Labels.{Package, is_slash}
-use Rattle.bz_label.specs.Values.{content, inner_of, is_newline, is_plain, units, value_of, values}
-use Rattle.bz_label.specs.private.ValueSteps.{first_len, inner_value, value_in}
+use Rattle.bz_label.specs.Values.{is_plain, value_of}
+use Rattle.bz_label.specs.private.ValueSteps.{content, inner_of, is_newline, units, values, first_len, inner_value, value_in}
+use Rattle.bz_label.proofs.ValueForms.{opened_other}
 use Rattle.bz_label.proofs.Literals.{plain_first, shut, step, units_joined}
 use Rattle.bz_attribute.specs.Lists.{same}
 use Rattle.bz_attribute.specs.private.Apart.{EndApart}
@@ -164,10 +166,13 @@ last_plain q x (y ∷ ys) h =
 no_quote : (q x : ℕ) → is_plain q x ≡ true → x ≡ q → ⊥
 no_quote q x h is = let clash : false ≡ true = sym (rw (is, eq-eqb q) refl) ∙ h in cc
 
+quote_no_r : (q : ℕ) → is_quote q ≡ true → (q == 114 && true) ≡ false
+quote_no_r q h = grind (arith, nat_tests)
+
 value_ends : (q c p x : ℕ) (xs front v : List ℕ) → is_quote q ≡ true → p == 92 ≡ false → list_all (is_plain q) (x ∷ xs) ≡ true → value_of (q ∷ (front ++ p ∷ x ∷ (xs ++ c ∷ []))) ≡ Some v → EndsIn v (x ∷ xs)
 value_ends q c p x xs front v quote escape plain h =
     let r : List ℕ = front ++ p ∷ x ∷ (xs ++ c ∷ []) in
-    let inside : option_and_then (values false) (inner_of (q ∷ r)) ≡ Some v = rw quote at h in
+    let inside : option_and_then (values false) (inner_of (q ∷ r)) ≡ Some v = rw quote at (opened_other (q ∷ r) (quote_no_r q quote) ∙ h) in
     elim (cases_Bool (starts_with nat_eq r (q ∷ q ∷ []))) [
       | inl three ↦
           let i = valued (content (q ∷ q ∷ q ∷ []) (units (drop 2 r))) v (rw three at inside) in
@@ -194,6 +199,3 @@ literal_ends_apart home [] word d long quote a = absurd (omega (arith, long))
 literal_ends_apart home (q ∷ rest) word d long quote a =
     let all : rest ≡ take (length (q ∷ rest) - 1 - 1) rest ++ get_or rest (length rest - 1) d ∷ [] = split_last rest d (omega (arith, long)) ∙ ap (λ (n : ℕ). take n rest ++ get_or rest (length rest - 1) d ∷ []) (omega (arith, long)) in
     ap (λ (zs : List ℕ). map_or false (λ value. same home value word) (value_of (q ∷ zs))) all ∙ apart_inside home q (get_or rest (length rest - 1) d) (take (length (q ∷ rest) - 1 - 1) rest) word quote a
-
-pub quoted_by : (q b : ℕ) → is_quote q ≡ true → b ≡ q → is_quote b ≡ true
-quoted_by q b h is = ap is_quote is ∙ h

@@ -1,5 +1,5 @@
 -- A value that is one list, and its end, by its parts.
-use Rattle.std.proofs.Common.{◌≡◌, ℕ, ◌+◌, ◌-◌, ◌≤◌, map, take, length-append, length-drop, List, [], ◌∷◌, ◌++◌, Bool, true, false, ◌&&◌, length, drop, refl, ap, sym, ◌∙◌, arith, append_assoc, drop-drop}
+use Rattle.std.proofs.Common.{◌≡◌, is_some, ℕ, ◌+◌, ◌-◌, ◌≤◌, map, take, length-append, length-drop, List, [], ◌∷◌, ◌++◌, Bool, true, false, ◌&&◌, length, drop, refl, ap, sym, ◌∙◌, arith, append_assoc, drop-drop}
 use Rattle.std.proofs.lemmas.Bool.{false≢true}
 use Rattle.std.proofs.Math.Seq.{drop-append_seam, take-append_seam}
 use Rattle.std.proofs.lemmas.List.{length-map}
@@ -9,7 +9,9 @@ use Rattle.bz_tree.specs.declared.tree.GroupKind.TheVariants.{List as ListKind}
 use Rattle.bz_tree.specs.Tree.{Item, leaf, group, Segs, items_of}
 use Rattle.bz_tree.specs.Rows.{RowPart, part_view, segment_end, item_parts, items_parts}
 use Rattle.bz_attribute.specs.Elements.{IsOnlyList, value_parts}
-use Rattle.bz_attribute.specs.Lists.{is_list, is_only}
+use Rattle.bz_attribute.specs.Lists.{only_list}
+use Rattle.bz_attribute.specs.ListWalk.{is_list, is_only}
+use Rattle.bz_attribute.proofs.ListPieces.{only_is}
 use Rattle.bz_attribute.specs.private.Parts.{ItemEnds, begins_list, ends_value, parts_len}
 use Rattle.bz_attribute.proofs.ItemParts.{opened, rest_of}
 use Rattle.bz_attribute.proofs.Lengths.{nodes_ended}
@@ -55,15 +57,15 @@ both_told : (x : Item) (xs : List Item) → is_list x && is_nil xs ≡ is_only i
 both_told x [] = elim (is_list x) as (λ b. b && true ≡ b) [ true ↦ refl | false ↦ refl ]
 both_told x (y ∷ xs) = elim (is_list x) as (λ b. b && false ≡ false) [ true ↦ refl | false ↦ refl ]
 
-pub only_told : (nodes : List Item) (after qs : List RowPart) (end : ℕ) → qs ≡ value_parts nodes after → ItemEnds qs 0 end → begins_list qs && ends_value (drop end qs) ≡ is_only is_list nodes
+pub only_told : (nodes : List Item) (after qs : List RowPart) (end : ℕ) → qs ≡ value_parts nodes after → ItemEnds qs 0 end → begins_list qs && ends_value (drop end qs) ≡ is_some (only_list nodes)
 only_told [] after qs end are ends = ap (λ (ps : List RowPart). begins_list ps && ends_value (drop end qs)) are
 only_told (x ∷ xs) after qs end are ends =
     let cut : qs ≡ item_parts x ++ value_parts xs after = are ∙ append_assoc (item_parts x) (items_parts (items_of xs)) (segment_end ∷ after) in
     let long : end ≡ length (item_parts x) = omega (arith, ends x xs after are) in
     let left : drop end qs ≡ value_parts xs after = (λ i. drop (long i) (cut i)) ∙ drop-append_seam (item_parts x) (value_parts xs after) in
-    (λ i. (ap begins_list are ∙ begins_told x xs after) i && (ap ends_value left ∙ ends_told xs after) i) ∙ both_told x xs
+    (λ i. (ap begins_list are ∙ begins_told x xs after) i && (ap ends_value left ∙ ends_told xs after) i) ∙ both_told x xs ∙ sym (only_is (x ∷ xs))
 
-pub only_there : (nodes : List Item) (after ps : List RowPart) (value to : ℕ) → drop value ps ≡ value_parts nodes after → to ≡ value + 1 → is_only is_list nodes ≡ true → IsOnlyList nodes after ps to
+pub only_there : (nodes : List Item) (after ps : List RowPart) (value to : ℕ) → drop value ps ≡ value_parts nodes after → to ≡ value + 1 → is_some (only_list nodes) ≡ true → IsOnlyList nodes after ps to
 only_there [] after ps value to read to_is is = absurd (false≢true is)
 only_there (leaf kind text ∷ []) after ps value to read to_is is = absurd (false≢true is)
 only_there (group ListKind segs one_comma end ∷ []) after ps value to read to_is is = record {
@@ -72,4 +74,4 @@ only_there (group ListKind segs one_comma end ∷ []) after ps value to read to_
   read = ap (λ (n : ℕ). drop n ps) to_is ∙ sym (drop-drop 1 value ps) ∙ ap (drop 1) (read ∙ opened ListKind segs one_comma end [] after);
 }
 only_there (group _ segs one_comma end ∷ []) after ps value to read to_is is = absurd (false≢true is)
-only_there (x ∷ y ∷ xs) after ps value to read to_is is = absurd (false≢true is)
+only_there (x ∷ y ∷ xs) after ps value to read to_is is = absurd (false≢true (sym (only_is (x ∷ y ∷ xs)) ∙ is))

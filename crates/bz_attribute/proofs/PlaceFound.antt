@@ -7,8 +7,10 @@ use Rattle.bz_token.specs.declared.token.Kind.TheVariants.{Identifier}
 use Rattle.bz_tree.specs.declared.tree.GroupKind.TheVariants.{RuleCall}
 use Rattle.bz_tree.specs.Tree.{Item, leaf, group, Segment, Statement, items_of, segs_of}
 use Rattle.bz_tree.specs.Rows.{RowPart, opening, segment_end, above, beside_part, items_parts, segs_parts, parts_of}
-use Rattle.bz_attribute.specs.Rules.{Rule, rule_of, is_named, first_named, dotted}
-use Rattle.bz_attribute.specs.Effects.{edit_first, has, with_args, nodes_after, nodes_of}
+use Rattle.bz_attribute.specs.Rules.{Rule, rule_of, is_named, first_named}
+use Rattle.bz_attribute.specs.private.RuleSteps.{dotted}
+use Rattle.bz_attribute.specs.Effects.{edit_first, has, with_args, nodes_of}
+use Rattle.bz_attribute.specs.private.RuleNodes.{nodes_after}
 use Rattle.bz_attribute.specs.RowPlaces.{alone, arguments_begin, before_args, IsArgumentAt, IsLocal, IsPlaceOf, IsPlaceOfAll, IsRuleRow}
 use Rattle.bz_attribute.specs.private.Parts.{arguments_end, plain_len, segment_len}
 use Rattle.bz_attribute.proofs.RuleNodes.{rule_nodes}
@@ -48,7 +50,7 @@ written s r front mid back from to is are from_is to_is =
     let first : List RowPart = pre s r front in
     let own : List RowPart = segs_parts (segs_of mid) in
     let last : List RowPart = post s r back in
-    let all : parts_of s ≡ first ++ (own ++ last) = in_three s r front mid back (rule_nodes [] s.nodes r is) are in
+    let all : parts_of s ≡ first ++ (own ++ last) = in_three s r front mid back (rule_nodes s.nodes r is) are in
     let joined : first ++ (own ++ last) ≡ (first ++ own) ++ last = sym (append_assoc first own last) in
     let size : to - from ≡ length own = omega (arith, from_is, to_is, length-append first own) in
     let dropped : drop from (parts_of s) ≡ own ++ last = (λ i. drop (from_is i) (all i)) ∙ drop-append_seam first (own ++ last) in
@@ -108,7 +110,7 @@ found_place name s r at from to is arg from_is to_is =
     let front : List RowPart = first ++ map above a.before in
     let own : List RowPart = segs_parts (segs_of (a ∷ [])) in
     let rest : List RowPart = items_parts (items_of a.nodes) ++ (segment_end ∷ (beside_part a.suffix ++ post s r arg.back)) in
-    let all : parts_of s ≡ front ++ rest = in_three s r arg.front (a ∷ []) arg.back (rule_nodes [] s.nodes r is) arg.are ∙ nodes_split s r arg.front arg.back a in
+    let all : parts_of s ≡ front ++ rest = in_three s r arg.front (a ∷ []) arg.back (rule_nodes s.nodes r is) arg.are ∙ nodes_split s r arg.front arg.back a in
     let begins : at ≡ length front = omega (arith, arg.begins, length-append first (map above a.before)) in
     let starts : from ≡ length first = from_is ∙ ap plain_len ((λ i. take (begins i) (all i)) ∙ take-append_seam front rest) ∙ comments_at s r arg.front a.before in
     let long : segment_len (drop at (parts_of s)) ≡ length (items_parts (items_of a.nodes)) + (1 + length (beside_part a.suffix)) =
@@ -127,7 +129,7 @@ place_there name s r ps at from to h found from_is to_is =
 
 pub place_new : (name : List ℕ) (s : Statement) (r : Rule) (ps : List RowPart) (end : ℕ) → IsRuleRow s r ps → has name r.args ≡ false → end ≡ arguments_end ps → IsPlaceOf name s r ps end end
 place_new name s r ps end h none end_is =
-    let long : end ≡ length (pre s r r.args) = end_is ∙ ap arguments_end (h.are ∙ parts_cut s r (rule_nodes [] s.nodes r h.rule)) ∙ args_end s r r.args in
+    let long : end ≡ length (pre s r r.args) = end_is ∙ ap arguments_end (h.are ∙ parts_cut s r (rule_nodes s.nodes r h.rule)) ∙ args_end s r r.args in
     over name s r ps end end h
     (middle name s r r.args [] [] end end h.rule (missing name s r none) long (long ∙ ap length (sym (append-nil (pre s r r.args)))))
 
@@ -153,11 +155,11 @@ begins_at s r rest dots =
 
 pub all_begin : (s : Statement) (r : Rule) (ps : List RowPart) → IsRuleRow s r ps → arguments_begin ps ≡ length (pre s r [])
 all_begin s r ps h =
-    ap arguments_begin (h.are ∙ parts_cut s r (rule_nodes [] s.nodes r h.rule)) ∙ begins_at s r _ (rule_dotted [] s.nodes r h.rule) ∙ ap length (sym (append-nil (before_args s r)))
+    ap arguments_begin (h.are ∙ parts_cut s r (rule_nodes s.nodes r h.rule)) ∙ begins_at s r _ (rule_dotted s.nodes r h.rule) ∙ ap length (sym (append-nil (before_args s r)))
 
 all_end : (s : Statement) (r : Rule) (ps : List RowPart) → IsRuleRow s r ps → arguments_end ps ≡ length (pre s r [] ++ segs_parts (segs_of r.args))
 all_end s r ps h =
-    ap arguments_end (h.are ∙ parts_cut s r (rule_nodes [] s.nodes r h.rule)) ∙ args_end s r r.args
+    ap arguments_end (h.are ∙ parts_cut s r (rule_nodes s.nodes r h.rule)) ∙ args_end s r r.args
     ∙ ap (λ (qs : List RowPart). length (qs ++ segs_parts (segs_of r.args))) (sym (append-nil (before_args s r)))
 
 pub place_all : (s : Statement) (r : Rule) (ps : List RowPart) (from to : ℕ) → IsRuleRow s r ps → from ≡ arguments_begin ps → to ≡ arguments_end ps → IsPlaceOfAll s r ps from to

@@ -1,8 +1,10 @@
 -- The nodes of a rule are those that its parts are read from.
-use Rattle.std.proofs.Common.{◌≡◌, List, [], ◌∷◌, ◌++◌, true, false, None, Some, ap, ◌∙◌, if◌then◌else◌, append_assoc}
+use Rattle.std.proofs.Common.{◌≡◌, List, [], ◌∷◌, ◌++◌, true, false, None, Some, ap, sym, ◌∙◌, if◌then◌else◌, append_assoc}
 use Rattle.bz_tree.specs.declared.tree.GroupKind.TheVariants.{Call, RuleCall, Load, Paren, List as ListKind, Index, Dict, ListComp, DictComp}
 use Rattle.bz_tree.specs.Tree.{Item, leaf, group, Segs, segments}
-use Rattle.bz_attribute.specs.Rules.{Rule, rule_from, call_at, dotted}
+use Rattle.bz_attribute.specs.Rules.{Rule, rule_of}
+use Rattle.bz_attribute.proofs.Calls.{called_at}
+use Rattle.bz_attribute.specs.private.RuleSteps.{call_at, dotted}
 use Rattle.bz_attribute.specs.Effects.{nodes_of}
 use Rattle.bz_tree.proofs.Rows.FromParts.{segs_back}
 
@@ -24,7 +26,5 @@ call_nodes kind (group Dict segs one_comma end) r h = absurd cc
 call_nodes kind (group ListComp segs one_comma end) r h = absurd cc
 call_nodes kind (group DictComp segs one_comma end) r h = absurd cc
 
-pub rule_nodes : (kind nodes : List Item) (r : Rule) → rule_from kind nodes ≡ Some r → nodes_of r ≡ kind ++ nodes
-rule_nodes kind [] r h = absurd cc
-rule_nodes kind (x ∷ []) r h = call_nodes kind x r h
-rule_nodes kind (x ∷ y ∷ xs) r h = rule_nodes (kind ++ x ∷ []) (y ∷ xs) r h ∙ append_assoc kind (x ∷ []) (y ∷ xs)
+pub rule_nodes : (nodes : List Item) (r : Rule) → rule_of nodes ≡ Some r → nodes_of r ≡ nodes
+rule_nodes nodes r h = let c = called_at nodes r h in call_nodes c.split.front c.split.last r c.is ∙ sym c.split.are

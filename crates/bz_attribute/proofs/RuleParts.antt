@@ -6,7 +6,9 @@ use Rattle.bz_tree.specs.declared.tree.GroupKind.{GroupKind}
 use Rattle.bz_tree.specs.declared.tree.GroupKind.TheVariants.{RuleCall}
 use Rattle.bz_tree.specs.Tree.{Item, leaf, group, Statement, items_of, segs_of, segments}
 use Rattle.bz_tree.specs.Rows.{RowPart, opening, closing, above, beside_part, item_parts, items_parts, segs_parts, parts_of}
-use Rattle.bz_attribute.specs.Rules.{Rule, rule_from, call_at, dotted}
+use Rattle.bz_attribute.specs.Rules.{Rule, rule_of}
+use Rattle.bz_attribute.proofs.Calls.{called_at}
+use Rattle.bz_attribute.specs.private.RuleSteps.{call_at, dotted}
 use Rattle.bz_attribute.specs.Effects.{nodes_of}
 use Rattle.bz_attribute.specs.RowPlaces.{before_args}
 use Rattle.bz_attribute.specs.private.Parts.{tokens_len}
@@ -40,10 +42,8 @@ call_dotted kind (group RuleCall segs one_comma end) r h =
     ] refl h
 call_dotted kind (group _ segs one_comma end) r h = absurd cc
 
-pub rule_dotted : (kind nodes : List Item) (r : Rule) → rule_from kind nodes ≡ Some r → dotted true r.kind ≡ true
-rule_dotted kind [] r h = absurd cc
-rule_dotted kind (x ∷ []) r h = call_dotted kind x r h
-rule_dotted kind (x ∷ y ∷ xs) r h = rule_dotted (kind ++ x ∷ []) (y ∷ xs) r h
+pub rule_dotted : (nodes : List Item) (r : Rule) → rule_of nodes ≡ Some r → dotted true r.kind ≡ true
+rule_dotted nodes r h = let c = called_at nodes r h in call_dotted c.split.front c.split.last r c.is
 
 abbrev pub AreTokens : List Item → Type 0
 AreTokens [] = Unit {0}

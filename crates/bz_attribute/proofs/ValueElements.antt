@@ -6,9 +6,9 @@ use Rattle.std.proofs.lemmas.List.{append_cancel_left, length-map, map-append}
 use Rattle.std.proofs.Math.Seq.{drop-append_seam, take-append_seam}
 use Rattle.bz_tree.specs.Tree.{Item, Segment, items_of, segs_of}
 use Rattle.bz_tree.specs.Rows.{RowPart, above, beside_part, closing, items_parts, segment_end, segs_parts}
-use Rattle.bz_attribute.specs.Effects.{edit_first, edit_element_from, with_comment}
+use Rattle.bz_attribute.specs.Effects.{edit_first, with_comment}
+use Rattle.bz_attribute.specs.ListWalk.{edit_element_from, parts_from}
 use Rattle.bz_attribute.specs.Elements.{IsElementOf, IsListIn, IsNextElement, ListRest, edited_rest, elements_left, found_rest, rest_parts, value_parts}
-use Rattle.bz_attribute.specs.Lists.{parts_from}
 use Rattle.bz_attribute.proofs.ListElements.{HasElement}
 use Rattle.bz_attribute.proofs.EditedAt.{segs_join}
 use Rattle.bz_attribute.proofs.ListEdits.{ended, long_opened, opened}

@@ -1,8 +1,8 @@
 -- What commands do to the arguments of a rule, as far as several do it: notes, the elements that a command means, new
 -- nodes, and the edit of a rule's arguments (buildozer README, edit commands; the failures are this project's own rule).
--- Begin with `with_args`, `slot_done` and `done`.
+-- Begin with `with_args`.
 use Rattle.std.specs.Prelude.{ℕ, List, [], ◌∷◌, ◌++◌, Bool, true, false, ◌&&◌, not, if◌then◌else◌, Option, Some, None, is_some, filter, codes, option_and_then}
-use Rattle.std.specs.List.{list_any, list_all}
+use Rattle.std.specs.List.{list_any}
 use Rattle.bz_token.specs.declared.token.Kind.TheVariants.{Identifier, Operator, String}
 use Rattle.bz_tree.specs.declared.tree.GroupKind.TheVariants.{RuleCall, List as ListKind}
 use Rattle.bz_token.specs.Common.{is_empty, map_or}
@@ -11,13 +11,13 @@ use Rattle.bz_label.specs.Labels.{Package}
 use Rattle.bz_label.specs.Values.{quoted}
 use Rattle.bz_label.specs.declared.arguments.Moved.{Moved}
 use Rattle.bz_label.specs.declared.arguments.Moved.TheVariants.{All, Values}
-use Rattle.bz_attribute.specs.Rules.{Rule, rule_of, elements, is_named, value}
-use Rattle.bz_attribute.specs.Lists.{with_value, parts, edit_parts, is_list, is_only, equals, edit_list, is_joint, is_part, is_plus}
+use Rattle.bz_attribute.specs.Rules.{Rule, rule_of, is_named, value}
+use Rattle.bz_attribute.specs.Lists.{with_value, parts, edit_parts, edit_piece, equals, only_list, pieces, sum_of}
 use Rattle.bz_attribute.specs.declared.done.Done.{Done}
 use Rattle.bz_attribute.specs.declared.done.Note.{Note}
 use Rattle.bz_attribute.specs.declared.done.Note.TheVariants.{Missing, NoAttribute, NotAList}
 
--- where there is a note, nothing is changed
+-- what a command reports (`Done`, in `src/done.rt`): where there is a note, nothing is changed
 abbrev pub done : Option Note → Bool → Done
 done None changed = record { changed = changed; line = None; note = None }
 done (Some note) changed = record { changed = false; line = None; note = Some note }
@@ -28,33 +28,29 @@ fails None = false
 fails (Some (Missing field)) = false
 fails (Some note) = true
 
+-- an argument has this name
 abbrev pub has : List ℕ → List Segment → Bool
 has attr args = list_any (is_named attr) args
 
--- the first argument that passes is edited, into none or more
-abbrev pub edit_first : (Segment → Bool) → (Segment → List Segment) → List Segment → List Segment
+-- the first that passes is edited, into none or more
+abbrev pub edit_first : {X : Type 0} → (X → Bool) → (X → List X) → List X → List X
 edit_first p f [] = []
-edit_first p f (a ∷ rest) = if p a then f a ++ rest else a ∷ edit_first p f rest
+edit_first p f (x ∷ xs) = if p x then f x ++ xs else x ∷ edit_first p f xs
 
--- in the list parts of a value, the first element that passes is edited
-abbrev pub edit_element_from : (Segment → Bool) → (Segment → Segment) → Bool → List Item → List Item
-edit_element_from p f start [] = []
-edit_element_from p f start (x ∷ xs) =
-    if is_part start x xs && list_any p (elements x) then edit_list (edit_first p (λ s. f s ∷ [])) x ∷ xs
-    else x ∷ edit_element_from p f (is_plus x) xs
+-- the first list part that passes is edited
+abbrev pub edit_part : (List Segment → Bool) → (List Segment → List Segment) → List Item → List Item
+edit_part p f nodes = sum_of (edit_first (λ piece. map_or false p (only_list piece)) (λ piece. edit_piece f piece ∷ []) (pieces nodes))
 
-abbrev pub edit_element : (Segment → Bool) → (Segment → Segment) → List Item → List Item
-edit_element p f nodes = if list_all is_joint nodes then edit_element_from p f true nodes else nodes
-
--- it becomes the last of the comment lines before the thing
+-- a segment with this line as the last of the comments above it
 abbrev pub with_comment : List ℕ → Segment → Segment
 with_comment line s = record s { before = s.before ++ line ∷ [] }
 
--- the elements that a command means: all, or those that equal one of its values
+-- the elements that a command means: all, or those that equal one of its values (`Moved`, which not only `move` uses)
 abbrev pub is_chosen : Package → Moved → Segment → Bool
 is_chosen home All s = true
 is_chosen home (Values values) s = list_any (λ word. equals home word s) values
 
+-- the elements that it does not mean
 abbrev pub unchosen : Package → Moved → List Segment → List Segment
 unchosen home chosen ss = filter (λ s. not (is_chosen home chosen s)) ss
 
@@ -64,9 +60,9 @@ chooses home chosen a = list_any (list_any (is_chosen home chosen)) (parts (valu
 
 -- the whole value is one list, and f leaves nothing of it
 abbrev pub loses_all : (List Segment → List Segment) → List Item → Bool
-loses_all f nodes = is_only (λ x. is_list x && not (is_empty (elements x)) && is_empty (f (elements x))) nodes
+loses_all f nodes = map_or false (λ ss. not (is_empty ss) && is_empty (f ss)) (only_list nodes)
 
--- an argument whose elements f filters: it goes where its whole value was one list that lost its last element
+-- an argument whose elements f filters; nothing, where its whole value was one list that lost its last element
 abbrev pub filtered : (List Segment → List Segment) → Segment → List Segment
 filtered f a = if loses_all f (value a) then [] else with_value (edit_parts f (value a)) a ∷ []
 
@@ -78,6 +74,7 @@ string_item v = leaf String (quoted v)
 abbrev pub string : List ℕ → Segment
 string v = record { before = []; nodes = string_item v ∷ []; suffix = None }
 
+-- a new list
 abbrev pub list_item : List Segment → Item
 list_item ss = group ListKind (segs_of ss) false []
 
@@ -85,25 +82,25 @@ list_item ss = group ListKind (segs_of ss) false []
 abbrev pub argument : List ℕ → List Item → Segment
 argument attr nodes = record { before = []; nodes = leaf Identifier attr ∷ leaf Operator (codes "=") ∷ nodes; suffix = None }
 
--- the attribute is there and has no list part
+-- the note where the attribute is there and has no list part
 abbrev pub not_a_list : List ℕ → Option Segment → Option Note
-not_a_list attr arg = option_and_then (λ a. if is_empty (parts (value a)) then Some (NotAList attr) else None) arg
+not_a_list attr o = option_and_then (λ a. if is_empty (parts (value a)) then Some (NotAList attr) else None) o
 
+-- the note where the attribute is absent
 abbrev pub is_absent : List ℕ → List Segment → Option Note
 is_absent attr args = if has attr args then None else Some (NoAttribute attr)
 
+-- the nodes of a rule
 abbrev pub nodes_of : Rule → List Item
 nodes_of r = r.kind ++ group RuleCall (segs_of r.args) r.one_comma r.end ∷ []
 
--- what is no rule stays, and so does the rest of a rule
-abbrev pub nodes_after : (List Segment → List Segment) → List Item → Option Rule → List Item
-nodes_after f nodes rule = map_or nodes (λ r. nodes_of (record r { args = f r.args })) rule
-
+-- a statement with f of its rule's arguments; what is no rule stays, and so does the rest of a rule
 abbrev pub with_args : (List Segment → List Segment) → Statement → Statement
-with_args f s = record s { nodes = nodes_after f s.nodes (rule_of s.nodes) }
+with_args f s = record s { nodes = map_or s.nodes (λ r. nodes_of (record r { args = f r.args })) (rule_of s.nodes) }
 
 abbrev pub slot_done : (List Segment → Done) → Option Statement → Done
 slot_done f slot = map_or (done None false) (λ s. map_or (done None false) (λ r. f r.args) (rule_of s.nodes)) slot
 
+-- a rule stands in the slot
 abbrev pub holds_rule : Option Statement → Bool
 holds_rule slot = map_or false (λ s. is_some (rule_of s.nodes)) slot

@@ -1,13 +1,14 @@
 -- The list parts of a value and the elements of each, among the parts of its rule.
-use Rattle.std.specs.Prelude.{◌≡◌, ℕ, ◌+◌, ◌-◌, List, [], ◌∷◌, ◌++◌, Bool, true, false, if◌then◌else◌, Option, None, Some, length, map, take, drop}
+use Rattle.std.specs.Prelude.{◌≡◌, ℕ, ◌+◌, ◌-◌, List, [], ◌∷◌, ◌++◌, Bool, true, false, if◌then◌else◌, Option, None, Some, is_some, length, map, take, drop}
 use Rattle.std.specs.List.{list_any, flat_map}
 use Rattle.bz_tree.specs.declared.tree.GroupKind.TheVariants.{List as ListKind}
 use Rattle.bz_tree.specs.Tree.{Item, group, Segment, Statement, items_of, segs_of}
 use Rattle.bz_tree.specs.Rows.{RowPart, above, closing, segment_end, items_parts, parts_of, segs_parts}
 use Rattle.bz_label.specs.Labels.{Package}
 use Rattle.bz_attribute.specs.Rules.{Rule, first_named, is_named, only_text, value}
-use Rattle.bz_attribute.specs.Lists.{edit_first_part, edit_from, edit_one_from, edit_parts, ends, equals, is_list, is_only, parts, parts_from, with_value}
-use Rattle.bz_attribute.specs.Effects.{edit_first, with_args, edit_element, edit_element_from, with_comment}
+use Rattle.bz_attribute.specs.Lists.{edit_parts, equals, parts, with_value, only_list}
+use Rattle.bz_attribute.specs.ListWalk.{edit_first_part, edit_from, edit_one_from, ends, parts_from, edit_element, edit_element_from}
+use Rattle.bz_attribute.specs.Effects.{edit_first, with_args, with_comment}
 
 -- the parts of a value, the end of its argument, and those after that
 abbrev pub value_parts : List Item → List RowPart → List RowPart
@@ -109,7 +110,7 @@ pub record IsOnlyList (nodes : List Item) (after ps : List RowPart) (to : ℕ) :
 
 -- it may be none
 abbrev pub OnlyList : List Item → List RowPart → List RowPart → Option ℕ → Type 0
-OnlyList nodes after ps None = is_only is_list nodes ≡ false
+OnlyList nodes after ps None = is_some (only_list nodes) ≡ false
 OnlyList nodes after ps (Some to) = IsOnlyList nodes after ps to
 
 -- all elements that are left of the value

@@ -1,4 +1,5 @@
 pub mod Effects
+pub mod ListWalk
 pub mod Elements
 pub mod Heads
 pub mod Lists

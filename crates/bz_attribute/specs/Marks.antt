@@ -7,7 +7,7 @@ use Rattle.bz_label.specs.Labels.{Target, Name, Pkg, All, Kind, Line}
 use Rattle.bz_attribute.specs.Rules.{Rule, rule_of, kind_text, name_in, is_text}
 use Rattle.bz_token.specs.Common.{map_or}
 
--- a rule that begins on a line; `Kind` is the target of rules of a kind, as `cc_library`
+-- whether a target marks a rule that begins on this line
 abbrev pub marks_rule : Target → ℕ → Rule → Bool
 marks_rule (Name name) start r = is_text name (name_in r.args)
 marks_rule Pkg start r = bytes_eq (kind_text r.kind) (codes "package")

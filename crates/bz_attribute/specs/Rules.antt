@@ -1,21 +1,19 @@
--- A rule: identifiers joined by dots, one call and nothing more (buildozer README). Its kind is what stands before the call, its
--- attributes are the keyword arguments.
+-- A rule, as `is_rule` says it: its kind is what stands before its call, its attributes are the keyword arguments (buildozer
+-- README).
 -- Begin with `rule_of`.
-use Rattle.std.specs.Prelude.{ℕ, List, [], ◌∷◌, ◌++◌, Bool, true, false, ◌&&◌, if◌then◌else◌, Option, Some, None, codes, drop, bytes_eq, find, option_and_then, flat_map}
-use Rattle.bz_token.specs.declared.token.Kind.TheVariants.{Identifier, String, Operator}
+use Rattle.std.specs.Prelude.{ℕ, ◌-◌, List, [], ◌∷◌, length, take, Bool, false, if◌then◌else◌, Option, Some, None, codes, drop, bytes_eq, find, option_and_then, flat_map}
+use Rattle.std.specs.List.{last_or}
+use Rattle.bz_token.specs.declared.token.Kind.TheVariants.{Identifier, String}
 use Rattle.bz_tree.specs.declared.tree.GroupKind.TheVariants.{RuleCall}
-use Rattle.bz_tree.specs.Tree.{Item, leaf, group, Segment, segments}
+use Rattle.bz_tree.specs.Tree.{Item, leaf, group, Segment, is_operator_item, is_rule, segments}
 use Rattle.bz_label.specs.Values.{value_of}
-
-abbrev pub is_operator_item : List ℕ → Item → Bool
-is_operator_item operator (leaf Operator text) = bytes_eq text operator
-is_operator_item operator _ = false
 
 -- the text of an identifier
 abbrev pub ident_of : Item → Option (List ℕ)
 ident_of (leaf Identifier text) = Some text
 ident_of _ = None
 
+-- whether it is this text
 abbrev pub is_text : List ℕ → Option (List ℕ) → Bool
 is_text text None = false
 is_text text (Some other) = bytes_eq text other
@@ -25,10 +23,11 @@ abbrev pub name_of : List Item → Option (List ℕ)
 name_of (x ∷ y ∷ value) = if is_operator_item (codes "=") y then ident_of x else None
 name_of _ = None
 
+-- an argument has this name
 abbrev pub is_named : List ℕ → Segment → Bool
 is_named name s = is_text name (name_of s.nodes)
 
--- the value of a named argument
+-- the value of a named argument: its nodes after the `=`
 abbrev pub value : Segment → List Item
 value s = drop 2 s.nodes
 
@@ -48,33 +47,20 @@ pub record Rule : Type 0 where
   pub one_comma : Bool
   pub end : List (List ℕ)
 
--- an identifier comes next, or with `false` a dot
-abbrev pub dotted : Bool → List Item → Bool
-dotted true [] = false
-dotted false [] = true
-dotted true (leaf Identifier text ∷ xs) = dotted false xs
-dotted true (x ∷ xs) = false
-dotted false (x ∷ xs) = is_operator_item (codes ".") x && dotted true xs
-
 abbrev pub elements : Item → List Segment
 elements (leaf kind text) = []
 elements (group kind segs one_comma end) = segments segs
 
--- a kind, and the call after it
-abbrev pub call_at : List Item → Item → Option Rule
-call_at kind (group RuleCall segs one_comma end) =
-    if dotted true kind then Some (record { kind = kind; args = segments segs; one_comma = one_comma; end = end }) else None
-call_at kind _ = None
+-- the rule with this kind and this call, a `RuleCall` in each rule that was read (`with_rule_call`, stop 7)
+abbrev pub with_call : List Item → Option Item → Option Rule
+with_call kind (Some (group RuleCall segs one_comma end)) =
+    Some (record { kind = kind; args = segments segs; one_comma = one_comma; end = end })
+with_call kind _ = None
 
--- `kind` was read, and xs comes
-abbrev pub rule_from : List Item → List Item → Option Rule
-rule_from kind [] = None
-rule_from kind (x ∷ []) = call_at kind x
-rule_from kind (x ∷ y ∷ xs) = rule_from (kind ++ x ∷ []) (y ∷ xs)
-
--- the rule that some nodes are
+-- the rule that some nodes are: its call is their last
 abbrev pub rule_of : List Item → Option Rule
-rule_of nodes = rule_from [] nodes
+rule_of nodes =
+    if is_rule nodes then with_call (take (length nodes - 1) nodes) (last_or None nodes) else None
 
 -- the text of a token
 abbrev pub written : Item → List ℕ

@@ -12,7 +12,7 @@ use Rattle.bz_token.specs.Common.{map_or}
 abbrev pub home_text : Package → List ℕ
 home_text home = map_or (codes "-:") (λ path. 47 ∷ 47 ∷ (path ++ 58 ∷ [])) home
 
--- `Kind` is the target of rules of a kind, as `cc_library`
+-- a target, as it is written in a label
 abbrev pub target_text : Target → List ℕ
 target_text (Name name) = name
 target_text Pkg = codes "__pkg__"

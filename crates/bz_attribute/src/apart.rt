@@ -8,8 +8,8 @@ ghost use Rattle.bz_attribute.specs.Lists.{same};
 ghost use Rattle.bz_attribute.specs.private.Apart.{EndApart};
 
 /// A string token of this text has no value that is the same label as the word, whatever the package is. False: it may
-/// have. A label in full ends as its text does after the last slash, and the value of a literal as that does after the last
-/// escape: two that end otherwise are not the same.
+/// have. A label in full ends as its text does after the last slash, and the value of a literal as that does after the
+/// last escape: two that end otherwise are not the same.
 #[inline(always)]
 pub fn literal_apart(text: &[u8], word: &[u8]) -> bool
     ensures { result ≡ true → (home : Package)

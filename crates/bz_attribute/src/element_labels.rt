@@ -33,8 +33,8 @@ fn kept_value<'a>(
     }
 }
 
-/// The labels of the elements of list parts that are strings with a value; where there are words, of those that equal one
-/// of them. The elements of the first list part begin at `list`.
+/// The labels of the elements of list parts that are strings with a value; where there are words, of those that equal
+/// one of them. The elements of the first list part begin at `list`.
 #[tactic(auto, using(crate::proofs::LabelsFound::none_labelled))]
 pub fn labels_of<'s>(
     alloc: Global,

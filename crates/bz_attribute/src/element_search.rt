@@ -54,7 +54,8 @@ pub fn first_equal(home: &Package, word: &str, parts: &[Part<'_>], from: usize) 
 }
 
 fn is_word(home: &Package, word: &str, string: Option<&str>) -> bool
-    ensures { result ≡ map_or false (λ value. same home.now value word.now) (option_and_then value_of (option_map (λ text. text.now) string.entry)) }
+    ensures { result ≡ map_or false (λ value. same home.now value word.now)
+        (option_and_then value_of (option_map (λ text. text.now) string.entry)) }
 {
     matches!(string, Some(text) if text_equals(home, text, word))
 }

@@ -9,7 +9,7 @@ ghost use Rattle.bz_attribute.specs.RowPlaces.{ForRule};
 ghost use Rattle.bz_attribute.specs.private.Parts as spec;
 ghost use Rattle.bz_attribute.specs.Lists as lists;
 
-use crate::finder::find_argument;
+use crate::finder::{find_argument, value_at};
 use crate::place::{comments_begin, comments_len, parts_len, segment_len};
 use crate::value::is_one_list;
 use bz_token::Kind;
@@ -35,7 +35,7 @@ pub fn value_place(parts: &[Part<'_>], name: &str) -> Option<usize>
     ensures within { IfSome result (λ at. at ≤ length parts.now) }
 {
     let at = find_argument(parts, name)?;
-    Some(parts.len().min(at + 2))
+    Some(parts.len().min(value_at(at)))
 }
 
 fn opens(part: &Part<'_>) -> bool
@@ -250,7 +250,8 @@ pub fn next_of_value<'a>(parts: &[Part<'a>], at: usize) -> Option<Element<'a>>
     ensures some { IfSome result (λ e. ForRest (map part_view parts.now) at (λ rest after ps.
         IsNextElement rest after ps at e.from e.token e.to (option_map (λ text. text.now) e.string))) }
     ensures none { IfNone result (ForRest (map part_view parts.now) at (λ rest after ps. elements_left rest ≡ [])) }
-    ensures within { IfSome result (λ e. (at ≤ e.from) × ((e.from ≤ e.token) × ((e.token < e.to) × (e.to ≤ length parts.now)))) }
+    ensures within { IfSome result
+        (λ e. (at ≤ e.from) × ((e.from ≤ e.token) × ((e.token < e.to) × (e.to ≤ length parts.now)))) }
 {
     let element = next_element(parts, at);
     if element.is_some() {

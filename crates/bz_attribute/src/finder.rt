@@ -1,6 +1,6 @@
 //! The arguments of a rule by their parts: the first one of a name, and the one with which some begin.
 
-ghost use Rattle.std.specs.Prelude.{◌≡◌, ◌<◌, ◌≤◌, List, map, option_map, IfSome, length};
+ghost use Rattle.std.specs.Prelude.{◌≡◌, ◌+◌, ◌<◌, ◌≤◌, ◌^◌, List, map, option_map, IfSome, length};
 ghost use Rattle.bz_tree.specs.Tree.{Segment};
 ghost use Rattle.bz_tree.specs.Rows.{RowPart, part_view};
 ghost use Rattle.bz_attribute.specs.RowPlaces.{AreArguments, ForRule, HasArgument, HasArgumentAmong, IsFirstArgument, argument_parts, arguments_begin};
@@ -32,8 +32,8 @@ fn begins_with(parts: &[Part<'_>], name: &str) -> bool
     matches!(name_in(parts), Some(other) if other == name)
 }
 
-/// Where the first argument of a name begins among the parts of a rule, after the comments above it. Of other parts, the
-/// arguments are what stands in the bracket that opens first.
+/// Where the first argument of a name begins among the parts of a rule, after the comments above it. Of other parts,
+/// the arguments are what stands in the bracket that opens first.
 pub fn find_argument(parts: &[Part<'_>], name: &str) -> Option<usize>
     ensures found { ForRule (map part_view parts.now) (λ s r ps. HasArgument name.now s r result) }
     ensures first { (before : List RowPart) (args : List Segment) → AreArguments before args (map part_view parts.now)
@@ -54,6 +54,14 @@ pub fn find_argument(parts: &[Part<'_>], name: &str) -> Option<usize>
         at = nodes + segment_len(argument);
     }
     None
+}
+
+/// Where the value of an argument with a name begins whose nodes begin at a place: after its name and `=`.
+pub fn value_at(nodes: usize) -> usize
+    requires { nodes + 2 < 2 ^ 64 }
+    ensures { result ≡ nodes + 2 }
+{
+    nodes + 2
 }
 
 /// An argument. It begins with the comments above it.

@@ -30,7 +30,7 @@ pub use elements::{
     Element, elements_end, first_list, next_element, next_list, next_of_value, value_place,
 };
 pub use env::Env;
-pub use finder::{FirstArgument, find_argument, first_argument};
+pub use finder::{FirstArgument, find_argument, first_argument, value_at};
 pub use head::Head;
 pub use lists::{elements_at, is_list};
 pub use marks::matches;

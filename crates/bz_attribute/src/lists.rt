@@ -3,7 +3,7 @@
 ghost use Rattle.std.specs.Prelude.{◌≡◌};
 ghost use Rattle.bz_tree.specs.View.{node_view, segs_view};
 ghost use Rattle.bz_attribute.specs.Rules.{elements};
-ghost use Rattle.bz_attribute.specs.Lists as spec;
+ghost use Rattle.bz_attribute.specs.ListWalk as spec;
 
 use bz_tree::{GroupKind, Node, Seg};
 

@@ -3,6 +3,8 @@
 ghost use Rattle.std.specs.Prelude.{◌≡◌, is_some, option_map, true};
 ghost use Rattle.bz_tree.specs.View.{node_view, nodes_view};
 ghost use Rattle.bz_attribute.specs.private.RuleViews.{rule_view};
+ghost use Rattle.bz_tree.specs.Tree.{is_operator_item};
+ghost use Rattle.bz_attribute.specs.private.RuleSteps.{dotted};
 ghost use Rattle.bz_attribute.specs.Rules as spec;
 
 use bz_token::Kind;
@@ -39,7 +41,7 @@ pub fn is_rule(nodes: &[Node<'_>]) -> bool
 
 // Identifiers joined by dots.
 fn are_dotted(kind: &[Node<'_>]) -> bool
-    ensures { result ≡ spec.dotted true (nodes_view kind.now) }
+    ensures { result ≡ dotted true (nodes_view kind.now) }
 {
     let mut left = kind;
     while let [name, dot, rest @ ..] = left {
@@ -52,7 +54,7 @@ fn are_dotted(kind: &[Node<'_>]) -> bool
 }
 
 pub(crate) fn is_operator_item(node: &Node<'_>, operator: &str) -> bool
-    ensures { result ≡ spec.is_operator_item operator.now (node_view node.now) }
+    ensures { result ≡ is_operator_item operator.now (node_view node.now) }
 {
     matches!(node, Node::Token(leaf) if matches!(leaf.kind, Kind::Operator) && leaf.text.as_str() == operator)
 }

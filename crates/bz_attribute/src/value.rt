@@ -1,9 +1,9 @@
 //! The value of an argument as a whole, by its parts: where it ends, and whether it is one list.
 
-ghost use Rattle.std.specs.Prelude.{◌≡◌, ◌<◌, ◌≤◌, ◌∷◌, IfSome, true, drop, map, length};
+ghost use Rattle.std.specs.Prelude.{◌≡◌, ◌<◌, ◌≤◌, ◌∷◌, IfSome, is_some, true, drop, map, length};
 ghost use Rattle.bz_tree.specs.Rows.{part_view, segment_end};
 ghost use Rattle.bz_attribute.specs.Elements.{ForValue, OnlyList};
-ghost use Rattle.bz_attribute.specs.Lists as lists;
+ghost use Rattle.bz_attribute.specs.Lists.{only_list};
 ghost use Rattle.bz_attribute.specs.private.Parts as spec;
 
 use crate::elements::item_end;
@@ -34,7 +34,7 @@ fn ends_value(parts: &[Part<'_>]) -> bool
 
 // The value that they begin with is one list.
 pub(crate) fn is_one_list(parts: &[Part<'_>]) -> bool
-    ensures told { ForValue (map part_view parts.now) 0 (λ nodes after ps. result ≡ lists.is_only lists.is_list nodes) }
+    ensures told { ForValue (map part_view parts.now) 0 (λ nodes after ps. result ≡ is_some (only_list nodes)) }
     ensures some { result ≡ true → 0 < length parts.now }
 {
     begins_list(parts) && ends_value(&parts[item_end(parts, 0)..])

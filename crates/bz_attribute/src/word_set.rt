@@ -18,7 +18,8 @@ use std::alloc::Global;
 pub struct WordSet<'a> {
     words: &'a [Text],
     labels: SortedLabels<'a>,
-    ghost all: { (text : List ℕ) → holds labels.home.now labels.labels.items text ≡ list_any (same labels.home.now text) words.now } by { Prim.hlevel props },
+    ghost all: { (text : List ℕ) → holds labels.home.now labels.labels.items text
+        ≡ list_any (same labels.home.now text) words.now } by { Prim.hlevel props },
 }
 
 impl<'a> WordSet<'a> {
@@ -32,7 +33,8 @@ impl<'a> WordSet<'a> {
 
     /// An element that is one string token of this text equals one of the words.
     pub fn has_text(&self, home: &Package, text: &str) -> bool
-        ensures { result ≡ list_any (λ word. map_or false (λ value. same home.now value word) (values.value_of text.now)) self.now.words.now }
+        ensures { result ≡ list_any (λ word. map_or false (λ value. same home.now value word)
+            (values.value_of text.now)) self.now.words.now }
     {
         match value_of(text) {
             None => false,

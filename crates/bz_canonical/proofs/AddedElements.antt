@@ -4,7 +4,7 @@ use Rattle.std.proofs.lemmas.List.Folds.{list_any-append}
 use Rattle.bz_label.specs.Labels.{Package}
 use Rattle.bz_canonical.specs.declared.lists.ReadElement.{ReadElement}
 use Rattle.bz_canonical.specs.private.Added.{AreOthers, is_word}
-use Rattle.bz_canonical.specs.private.Rewritten.{Element, IsElementRead, element_written}
+use Rattle.bz_canonical.specs.private.Elements.{Element, IsElementRead, element_written}
 use Rattle.bz_canonical.proofs.ElementLists.{passed_more, passed_none}
 
 pub others_none : (home : Package) (word : List ℕ) (lines : Bool) (text : List ℕ) → AreOthers home word lines false text text

@@ -9,7 +9,7 @@ use Rattle.bz_tree.specs.declared.tree.GroupKind.TheVariants.{List as ListKind}
 use Rattle.bz_tree.specs.Tree.{leaf, group, no_items, item, seg, Segment, segments, segs_of}
 use Rattle.bz_layout.specs.declared.broken.Style.TheVariants.{Broken}
 use Rattle.bz_layout.specs.declared.spacing.Gap.TheVariants.{Closed}
-use Rattle.bz_layout.specs.Layout.{item_pieces}
+use Rattle.bz_layout.specs.Walked.{item_pieces}
 use Rattle.bz_layout.specs.Pieces.{bytes_of, comments, indent, suffix_piece}
 use Rattle.bz_layout.specs.Respell.{respell}
 use Rattle.bz_label.specs.Labels.{Package}
@@ -24,12 +24,12 @@ use Rattle.bz_canonical.specs.declared.edited.ListEdit.{ListEdit}
 use Rattle.bz_canonical.specs.declared.edited.PassedList.{PassedList}
 use Rattle.bz_canonical.specs.private.Added.{have_word, last_line, list_arg}
 use Rattle.bz_canonical.specs.private.Edited.{IsListEdited}
-use Rattle.bz_canonical.specs.private.Rewritten.{Element, element_line, element_lines, element_list, element_segs, is_noted}
+use Rattle.bz_canonical.specs.private.Elements.{Element, element_line, element_lines, element_list, element_segs, is_noted}
 use Rattle.bz_canonical.proofs.EditedElements.{stay_all}
 use Rattle.bz_canonical.proofs.EditedLines.{edited_of, front_of, have_is, list_read, no_new, put_held, sought}
 use Rattle.bz_canonical.proofs.ElementLists.{closed, flat_one, longer, or_yes, written_broken}
 use Rattle.bz_canonical.proofs.ListLines.{chosen, first_is}
-use Rattle.bz_canonical.proofs.PutArguments.{argument_bytes, laid}
+use Rattle.bz_canonical.proofs.ReadArguments.{argument_bytes, laid}
 
 -- the argument
 

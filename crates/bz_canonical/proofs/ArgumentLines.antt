@@ -7,8 +7,7 @@ use Rattle.bz_tree.specs.Tree.{Segs, no_segs, seg, Segment, items_of, list_of, s
 use Rattle.bz_layout.specs.declared.spacing.Edge.TheVariants.{Start}
 use Rattle.bz_layout.specs.declared.spacing.Gap.TheVariants.{Closed, Line}
 use Rattle.bz_layout.specs.declared.broken.Style.TheVariants.{Broken}
-use Rattle.bz_layout.specs.Broken.{count}
-use Rattle.bz_layout.specs.Layout.{broken_segs, items_pieces}
+use Rattle.bz_layout.specs.Walked.{count, broken_segs, items_pieces}
 use Rattle.bz_layout.specs.Pieces.{Piece, piece, bytes_of, comments, indent, suffix_piece}
 use Rattle.bz_layout.proofs.Pieces.{bytes_append}
 use Rattle.bz_layout_laws.proofs.SameInside.{items_same}

@@ -6,7 +6,7 @@ use Rattle.std.proofs.lemmas.Bool.{false≢true}
 use Rattle.std.proofs.lemmas.List.{drop-drop, drop_more}
 use Rattle.bz_tree.specs.Tree.{Segment}
 use Rattle.bz_canonical.specs.SealedRules.{are_asked, between}
-use Rattle.bz_canonical.specs.Spans.{AreSpans, kept}
+use Rattle.bz_canonical.specs.Spans.{AreSpans, is_asked, kept}
 use Rattle.bz_canonical.specs.declared.spans.ArgumentSpan.{ArgumentSpan}
 use Rattle.bz_canonical.proofs.ArgumentParts.{lines_cut}
 
@@ -23,7 +23,7 @@ pub record AreLinesLeft (names : List (List ℕ)) (chunk : List ℕ) (spans : Li
 
 -- what is told of the lines of one
 abbrev pub PutsLines : List ℕ → ArgumentSpan → List ℕ → List ℕ → Type 0
-PutsLines chunk span old new = (lines : List ℕ) → between span.from span.to chunk ≡ lines → new ≡ old ++ concat (kept (span.asked ∷ []) (lines ∷ []))
+PutsLines chunk span old new = (lines : List ℕ) → between span.from span.to chunk ≡ lines → new ≡ old ++ concat (kept (is_asked span ∷ []) (lines ∷ []))
 
 lines_one : (names : List (List ℕ)) (chunk : List ℕ) (span : ArgumentSpan) (spans : List ArgumentSpan) (put new all : List ℕ) → AreLinesLeft names chunk (span ∷ spans) put all
     → PutsLines chunk span put new → AreLinesLeft names chunk spans new all
@@ -45,7 +45,7 @@ lines_one names chunk span spans put new all h puts = by h.args h.stands h.are h
           after = h.after;
           are = are.1;
           text = ap (λ n. drop n chunk) are.0.to_is ∙ sym (drop-drop (length lines) h.from chunk) ∙ ap (drop (length lines)) whole ∙ drop-append_seam lines (concat stands ++ h.after);
-          all_is = one span.asked (puts lines cut) all_is;
+          all_is = one (is_asked span) (puts lines cut) all_is;
         }
       where
         one : (b : Bool) → new ≡ put ++ concat (kept (b ∷ []) (lines ∷ [])) → put ++ concat (kept (b ∷ are_asked spans) (lines ∷ stands)) ≡ all → new ++ concat (kept (are_asked spans) stands) ≡ all

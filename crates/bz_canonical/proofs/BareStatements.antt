@@ -1,6 +1,5 @@
 -- A statement without its comments, by what was read of it.
 use Rattle.std.proofs.Common.{◌≡◌, ◌<◌, ◌-◌, ℕ, List, [], ◌∷◌, ◌++◌, Bool, true, false, ◌||◌, ◌&&◌, Bor, length, take, refl, sym, ap, ◌∙◌, arith, append_assoc, append-nil, subst}
-use Rattle.bz_attribute.proofs.Calls.{no_dots}
 use Rattle.std.specs.Prelude.{codes, if◌then◌else◌, IfNone, IfSome, Option, None, Some, map, option_map, nat_le, ◌≤◌, bytes_eq}
 use Rattle.std.proofs.lemmas.Bool.{false≢true}
 use Rattle.bz_token.specs.declared.token.Kind.TheVariants.{Identifier, Keyword, Operator, String}
@@ -10,27 +9,26 @@ use Rattle.bz_tree.specs.declared.tree.Class.TheVariants.{Rule, Load, Assign}
 use Rattle.bz_tree.specs.declared.tree.kinds.Preceding.{Preceding}
 use Rattle.bz_tree.specs.declared.tree.kinds.Preceding.TheVariants.{Other}
 use Rattle.bz_tree.specs.declared.tree.kinds.Shape.TheVariants.{Round}
-use Rattle.bz_tree.specs.Brackets.{after_item}
 use Rattle.bz_tree.specs.private.Productions.{IsTest, IsChain, IsTerm, IsPrimary, IsOperand, IsSuffix, AreSuffixes, IsExpr, IsLoad, IsLoadArg, IsString, IsStatement, is_assignment, operator_role}
-use Rattle.bz_tree.specs.Kinds.{operator_mark}
-use Rattle.bz_tree.specs.Statement.{is_assign_operator, is_rule, rule_call}
-use Rattle.bz_tree.specs.Tree.{Item, leaf, group, Items, no_items, item, items_of, list_of, segments}
+use Rattle.bz_tree.specs.Kinds.{operator_mark, after_item}
+use Rattle.bz_tree.specs.Elements.{rule_call}
+use Rattle.bz_tree.specs.private.KindSteps.{is_assign_operator}
+use Rattle.bz_tree.specs.Tree.{Item, leaf, group, Items, no_items, item, items_of, list_of, segments, is_rule}
 use Rattle.bz_layout.specs.declared.spacing.Edge.{Edge}
 use Rattle.bz_layout.specs.declared.spacing.Edge.TheVariants.{Operand as EdgeOperand, Operator as EdgeOperator}
 use Rattle.bz_layout.specs.declared.spacing.Gap.{Gap}
 use Rattle.bz_layout.specs.declared.spacing.Gap.TheVariants.{Closed, Space}
 use Rattle.bz_layout.specs.Broken.{breaks_by_count}
 use Rattle.bz_layout.specs.declared.broken.Style.TheVariants.{Broken}
-use Rattle.bz_layout.specs.Layout.{item_pieces, items_pieces}
+use Rattle.bz_layout.specs.Walked.{item_pieces, items_pieces, closes_up, edge_after, gap_before}
 use Rattle.bz_layout.specs.Pieces.{Piece, piece, bytes_of, gap_bytes}
-use Rattle.bz_layout.specs.Spacing.{closes_up, edge_after, gap_before}
 use Rattle.bz_layout_laws.specs.Legible.{is_leaf_mark, items_depth}
 use Rattle.bz_layout_laws.specs.Parsed.{HaveKinds, plain_calls}
 use Rattle.bz_layout_laws.specs.Spelled.{spelled, spelled_items}
 use Rattle.bz_layout_laws.specs.TextsOfKinds.{HaveTexts}
 use Rattle.bz_layout_laws.proofs.ParsedRead.{plain_same}
 use Rattle.bz_layout_laws.proofs.SameInside.{items_same}
-use Rattle.bz_attribute.specs.Rules.{first_named, rule_from}
+use Rattle.bz_attribute.specs.Rules.{first_named, rule_of}
 use Rattle.bz_canonical.specs.Canonical.{HasArgumentName, IsNameless, rule_args, rule_name}
 use Rattle.bz_canonical.specs.private.Fronts.{IsTokenFront}
 use Rattle.bz_canonical.specs.private.Segments.{IsSegmentFront}
@@ -187,10 +185,8 @@ assign_word true = record { text = assign_text true; mark = refl; dot = refl; as
 assign_word false = record { text = assign_text false; mark = refl; dot = refl; assigns = refl; role = refl; apart = refl; edge = refl }
 
 -- what begins with a name and another operator than a dot is no rule
-no_rule : (name o : List ℕ) (kind ys : List Item) → bytes_eq o (codes ".") ≡ false → rule_from (leaf Identifier name ∷ leaf Operator o ∷ kind) ys ≡ None
-no_rule name o kind [] other = refl
-no_rule name o kind (x ∷ []) other = no_dots (leaf Identifier name ∷ leaf Operator o ∷ kind) x (rw other refl)
-no_rule name o kind (x ∷ y ∷ ys) other = no_rule name o (kind ++ x ∷ []) (y ∷ ys) other
+no_rule : (name o : List ℕ) (ys : List Item) → bytes_eq o (codes ".") ≡ false → rule_of (leaf Identifier name ∷ leaf Operator o ∷ ys) ≡ None
+no_rule name o ys other = rw other refl
 
 listed : (xs : Items) → map spelled (list_of xs) ≡ list_of (spelled_items xs)
 listed no_items = refl
@@ -217,9 +213,9 @@ assigned_with depth text end value rest o h f is word v = record {
   stays = ap (λ zs. leaf Identifier f.token ∷ leaf Operator o ∷ zs) (ap (λ zs. spelled v.x ∷ zs) (listed v.xs) ∙ ap list_of v.are.stays);
   front = f.front ∙ ap (λ (t : List ℕ). f.token ++ t) (is ∙ ap (λ (t : List ℕ). 32 ∷ (o ++ t)) value_is)
       ∙ by (gap_before Closed EdgeOperand (leaf Operator o)) (ap (λ c. if c then Closed else Space) word.apart) (edge_after None EdgeOperand (leaf Operator o)) word.edge (items_of (list_of v.xs)) back;
-  named = ap rule_name (no_rule f.token o [] (v.x ∷ list_of v.xs) word.dot);
+  named = ap rule_name (no_rule f.token o (v.x ∷ list_of v.xs) word.dot);
   nameless = tt;
-  absent = λ name none. ap (λ found. first_named name (rule_args found)) (no_rule f.token o [] (v.x ∷ list_of v.xs) word.dot);
+  absent = λ name none. ap (λ found. first_named name (rule_args found)) (no_rule f.token o (v.x ∷ list_of v.xs) word.dot);
 }
   where
     back : items_of (list_of v.xs) ≡ v.xs

@@ -1,15 +1,13 @@
 -- What is written of a well-formed statement is a canonical chunk.
 use Rattle.std.proofs.Common.{◌≡◌, ℕ, ◌-◌, ◌<◌, List, [], ◌∷◌, ◌++◌, Bool, true, false, length, take, refl, sym, ◌∙◌, ap, subst, arith, append-nil, append_assoc}
-use Rattle.std.specs.Prelude.{codes, if◌then◌else◌, IfSome, Option, None, Some}
+use Rattle.std.specs.Prelude.{codes, if◌then◌else◌, IfSome, Option}
 use Rattle.bz_token.specs.Chunks.{chunks}
 use Rattle.bz_token.specs.Cuts.{IsChunk}
 use Rattle.bz_tree.specs.declared.tree.Class.{Class}
 use Rattle.bz_tree.specs.Chunk.{IsStatementIn}
-use Rattle.bz_tree.specs.Tree.{Statement, segs_of}
+use Rattle.bz_tree.specs.Tree.{Statement}
 use Rattle.bz_layout.specs.Layout.{is_comment, layout_text}
-use Rattle.bz_attribute.specs.Effects.{with_args}
 use Rattle.bz_attribute.specs.Rules.{first_named, rule_of}
-use Rattle.bz_layout_laws.specs.TextsOfKinds.{SegsHaveTexts}
 use Rattle.bz_layout_laws.specs.Lineless.{lineless}
 use Rattle.bz_layout_laws.specs.Spelled.{spelled_statement}
 use Rattle.bz_layout_laws.specs.WellFormed.{IsWellFormed}
@@ -17,10 +15,9 @@ use Rattle.bz_layout_laws.proofs.CommentChunk.{comments_and_blank}
 use Rattle.bz_layout_laws.proofs.CommentRead.{comments_read}
 use Rattle.bz_layout_laws.proofs.WellFormed.{formed_again, formed_legible, formed_no_block}
 use Rattle.bz_layout_laws.proofs.WholeChunk.{statement_chunked}
-use Rattle.bz_canonical.specs.Canonical.{AreReadAlone, Between, HasPlace, IsCanonical, IsNameless, IsReadBack, argument_lines, first_args, rule_args, rule_name}
+use Rattle.bz_canonical.specs.Canonical.{IsCanonical, IsNameless, IsReadBack, rule_args, rule_name}
 use Rattle.bz_canonical.specs.private.Statements.{IsStatementFront, empty_line}
 use Rattle.bz_canonical.proofs.Taken.{taken}
-use Rattle.bz_token.specs.Common.{is_empty}
 
 pub chunk_some : (chunk : List ℕ) → IsChunk chunk → 0 < length chunk
 chunk_some [] ends = let none : [] ≡ [] ∷ chunks [] = ends [] in absurd cc
@@ -40,21 +37,9 @@ whole_again first depth s formed = by (is_comment s.class) refl
     by true is = comments_read first depth s (formed_legible depth s formed) formed.parsed formed.depth_fits formed.grammar is
     by false is = subst (λ bytes. (t : Statement) × IsStatementIn first depth bytes t × (lineless t ≡ lineless (spelled_statement s))) (sym (append-nil (layout_text s))) (formed_again first depth s formed)
 
--- the place of an argument, of what is read
-pub place_same : (depth : ℕ) (attr : List ℕ) (s t : Statement) (b : Between) → lineless t ≡ lineless s → HasPlace depth attr s b → HasPlace depth attr t b
-place_same depth attr s t b same has = record {
-  rule = has.rule;
-  rule_is = ap (λ (z : Statement). rule_of z.nodes) same ∙ has.rule_is;
-  none = has.none ∙ ap (λ (z : Statement). is_empty (first_args attr z)) (sym same);
-  reads = subst (AreReadAlone depth b.lines) (ap (λ (z : Statement). first_args attr z) (sym same)) has.reads;
-  texts = subst (λ xs. SegsHaveTexts (segs_of xs)) (ap (λ (z : Statement). first_args attr z) (sym same)) has.texts;
-  takes = λ f local some. ap (λ (z : Statement). layout_text (with_args f z)) same ∙ has.takes f local (ap (λ (z : Statement). is_empty (f (first_args attr z))) (sym same) ∙ some)
-      ∙ ap (λ (z : Statement). b.before ++ (argument_lines (f (first_args attr z)) ++ b.after)) (sym same);
-}
-
-read_back : (first depth : ℕ) (attr : List ℕ) (class : Class) (name kind : Option (List ℕ)) (place : Option Between) (text end rest : List ℕ) → (f : IsStatementFront depth class name kind text end rest)
-    → IfSome place (HasPlace depth attr f.s) → IsReadBack first depth attr class name kind place (layout_text f.s ++ empty_line f.s.class) (layout_text f.s)
-read_back first depth attr class name kind place text end rest f has =
+read_back : (first depth : ℕ) (class : Class) (name kind : Option (List ℕ)) (text end rest : List ℕ) → (f : IsStatementFront depth class name kind text end rest)
+    → IsReadBack first depth class name kind (layout_text f.s ++ empty_line f.s.class) (layout_text f.s)
+read_back first depth class name kind text end rest f =
     let again = whole_again first depth f.s f.well in
     let same : lineless again.0 ≡ lineless f.s = again.2 ∙ ap lineless f.stays in
     record {
@@ -65,20 +50,15 @@ read_back first depth attr class name kind place text end rest f has =
       nameless = subst (λ (z : Statement). IfSome kind (λ k. IsNameless k z.nodes)) (sym same) f.nameless;
       written = ap layout_text same;
       absent = λ name none. ap (λ (z : Statement). first_named name (rule_args (rule_of z.nodes))) same ∙ f.absent name none;
-      has = known_place place has;
     }
-  where
-    known_place : (place : Option Between) → IfSome place (HasPlace depth attr f.s) → IfSome place (HasPlace depth attr (whole_again first depth f.s f.well).0)
-    known_place None has = tt
-    known_place (Some b) has = place_same depth attr f.s (whole_again first depth f.s f.well).0 b ((whole_again first depth f.s f.well).2 ∙ ap lineless f.stays) has
 
-pub canonical_chunk : (depth : ℕ) (attr : List ℕ) (class : Class) (name kind : Option (List ℕ)) (place : Option Between) (chunk written text end rest : List ℕ) → (f : IsStatementFront depth class name kind text end rest)
-    → chunk ≡ take (length text - length rest) text → written ≡ take (length text - length end) text → IfSome place (HasPlace depth attr f.s) → IsCanonical depth attr class name kind place chunk written text
-canonical_chunk depth attr class name kind place chunk written text end rest f chunk_is written_is has =
+pub canonical_chunk : (depth : ℕ) (class : Class) (name kind : Option (List ℕ)) (chunk written text end rest : List ℕ) → (f : IsStatementFront depth class name kind text end rest)
+    → chunk ≡ take (length text - length rest) text → written ≡ take (length text - length end) text → IsCanonical depth class name kind chunk written text
+canonical_chunk depth class name kind chunk written text end rest f chunk_is written_is =
     let s = f.s in
     let all : List ℕ = layout_text s ++ empty_line s.class in
     let front : text ≡ all ++ rest = f.front ∙ ap (λ (t : List ℕ). layout_text s ++ t) (f.ends ∙ ap (λ c. empty_line c ++ rest) (sym f.class_is)) ∙ sym (append_assoc (layout_text s) (empty_line s.class) rest) in
     let whole : IsChunk all = whole_chunk depth s f.well in
-    subst (λ bytes. IsCanonical depth attr class name kind place bytes written text) (sym (chunk_is ∙ taken text all rest front))
-    (subst (λ bytes. IsCanonical depth attr class name kind place all bytes text) (sym (written_is ∙ taken text (layout_text s) end f.front))
-    (record { some = chunk_some all whole; rest = rest; front = front; ends = whole; read = λ first. read_back first depth attr class name kind place text end rest f has }))
+    subst (λ bytes. IsCanonical depth class name kind bytes written text) (sym (chunk_is ∙ taken text all rest front))
+    (subst (λ bytes. IsCanonical depth class name kind all bytes text) (sym (written_is ∙ taken text (layout_text s) end f.front))
+    (record { some = chunk_some all whole; rest = rest; front = front; ends = whole; read = λ first. read_back first depth class name kind text end rest f }))

@@ -16,10 +16,8 @@ use Rattle.bz_layout.specs.declared.spacing.Edge.{Edge}
 use Rattle.bz_layout.specs.declared.spacing.Gap.{Gap}
 use Rattle.bz_layout.specs.declared.spacing.Gap.TheVariants.{Closed, Space}
 use Rattle.bz_layout.specs.declared.broken.Style.TheVariants.{Broken}
-use Rattle.bz_layout.specs.Broken.{items_hold}
-use Rattle.bz_layout.specs.Layout.{item_pieces, items_pieces}
+use Rattle.bz_layout.specs.Walked.{items_hold, item_pieces, items_pieces, closes_up, edge_after, gap_before, is_index_colon}
 use Rattle.bz_layout.specs.Pieces.{Piece, gap_bytes, bytes_of}
-use Rattle.bz_layout.specs.Spacing.{closes_up, edge_after, gap_before, is_index_colon}
 use Rattle.bz_layout.proofs.Pieces.{bytes_append}
 use Rattle.bz_layout_laws.specs.Legible.{is_leaf_mark}
 use Rattle.bz_layout_laws.specs.Parsed.{HaveKinds, is_comma}

@@ -5,7 +5,7 @@ use Rattle.std.proofs.lemmas.Grind.{common_steps}
 use Rattle.std.proofs.lemmas.Bool.{false≢true}
 use Rattle.std.proofs.lemmas.Bool.Decides.{nat_tests}
 use Rattle.std.proofs.lemmas.List.{length-append}
-use Rattle.bz_token.specs.Lexical.{begins, is_comment, is_newline, is_text, is_word_byte}
+use Rattle.bz_token.specs.Lexical.{is_comment, is_newline, is_text, is_word_byte}
 use Rattle.bz_token.specs.declared.token.Kind.TheVariants.{Identifier}
 use Rattle.bz_token.proofs.Ends.{comment_parts}
 use Rattle.bz_tree.specs.Rows.{RowPart, above}
@@ -14,6 +14,7 @@ use Rattle.bz_layout_laws.specs.Legible.{AreComments}
 use Rattle.bz_canonical.specs.SealedRules.{IsLevel, between, comment_rows}
 use Rattle.bz_canonical.specs.SealedRules.IsLevel.{inside, outside}
 use Rattle.bz_canonical.proofs.CutTexts.{cut_at, rest_at}
+use Rattle.bz_token.specs.Common.{begins}
 
 pub line_of : (text after : List ℕ) → list_any is_newline text ≡ false → prefix_len (λ b. not (b == 10)) (text ++ 10 ∷ after) ≡ length text
 line_of [] after none = grind (arith, common_steps)
@@ -26,9 +27,6 @@ pub record AreLeft (level : ℕ) (after rest : List ℕ) (put all : List RowPart
   pub rest_is : rest ≡ comment_rows level left ++ after
   pub all_is : put ++ map above left ≡ all
 
-pub none_put : (level : ℕ) (notes : List (List ℕ)) (after rest : List ℕ) (put : List RowPart) → AreComments notes → rest ≡ comment_rows level notes ++ after → AreLeft level after rest put (put ++ map above notes)
-none_put level notes after rest put are is = record { left = notes; are = are; rest_is = is; all_is = refl }
-
 head_are : (c : List ℕ) (cs : List (List ℕ)) → AreComments (c ∷ cs) → (is_comment c ≡ true) × AreComments cs
 head_are c cs are = grind (arith, common_steps)
 
@@ -37,8 +35,8 @@ begins_row _ _ _ [] more outside is = absurd (false≢true is)
 begins_row _ _ _ (b ∷ bs) more outside is = (comment_parts (b ∷ bs) is).0
 begins_row _ _ _ c more inside is = refl
 
-pub all_put : (level first length : ℕ) (after rest : List ℕ) (put all : List RowPart) → IsLevel level first length → begins (λ b. b == first) rest ≡ false → AreLeft level after rest put all → (rest ≡ after) × (put ≡ all)
-all_put level first length after rest put all at apart h = by h.left h.are h.rest_is h.all_is
+pub all_read_place : (level first length : ℕ) (after rest : List ℕ) (put all : List RowPart) → IsLevel level first length → begins (λ b. b == first) rest ≡ false → AreLeft level after rest put all → (rest ≡ after) × (put ≡ all)
+all_read_place level first length after rest put all at apart h = by h.left h.are h.rest_is h.all_is
   where
     by : (left : List (List ℕ)) → AreComments left → rest ≡ comment_rows level left ++ after → put ++ map above left ≡ all → (rest ≡ after) × (put ≡ all)
     by [] are is puts = (is, sym (append-nil put) ∙ puts)
@@ -53,9 +51,9 @@ no_newline : (level first size : ℕ) (c : List ℕ) → IsLevel level first siz
 no_newline _ _ _ c outside apart = apart
 no_newline _ _ _ c inside apart = apart
 
-pub one_put : (level first size : ℕ) (after rest : List ℕ) (put all : List RowPart) → IsLevel level first size → begins (λ b. b == first) after ≡ false → begins (λ b. b == first) rest ≡ true → AreLeft level after rest put all
+pub one_among : (level first size : ℕ) (after rest : List ℕ) (put all : List RowPart) → IsLevel level first size → begins (λ b. b == first) after ≡ false → begins (λ b. b == first) rest ≡ true → AreLeft level after rest put all
     → AreLeft level after (drop (prefix_len (λ b. not (b == 10)) rest + 1) rest) (put ++ above (between size (prefix_len (λ b. not (b == 10)) rest) rest) ∷ []) all
-one_put level first size after rest put all at apart begun h = by h.left h.are h.rest_is h.all_is
+one_among level first size after rest put all at apart begun h = by h.left h.are h.rest_is h.all_is
   where
     by : (left : List (List ℕ)) → AreComments left → rest ≡ comment_rows level left ++ after → put ++ map above left ≡ all
         → AreLeft level after (drop (prefix_len (λ b. not (b == 10)) rest + 1) rest) (put ++ above (between size (prefix_len (λ b. not (b == 10)) rest) rest) ∷ []) all

@@ -9,18 +9,19 @@ use Rattle.bz_token.specs.Common.{is_empty}
 use Rattle.bz_token.specs.Lexical.{is_comment, is_name, is_newline, is_text, is_word_byte}
 use Rattle.bz_token.specs.declared.token.Kind.TheVariants.{Identifier, Operator}
 use Rattle.bz_tree.specs.declared.tree.GroupKind.TheVariants.{RuleCall}
-use Rattle.bz_tree.specs.Tree.{Item, Segment, Statement, items_of, leaf, segs_of}
+use Rattle.bz_tree.specs.Tree.{Item, Segment, Statement, items_of, leaf, segs_of, is_operator_item}
 use Rattle.bz_layout.specs.declared.broken.Style.TheVariants.{Broken}
 use Rattle.bz_layout.specs.declared.spacing.Edge.TheVariants.{Start}
 use Rattle.bz_layout.specs.declared.spacing.Gap.TheVariants.{Closed, Line}
-use Rattle.bz_layout.specs.Layout.{items_pieces, layout_text}
+use Rattle.bz_layout.specs.Layout.{layout_text}
+use Rattle.bz_layout.specs.Walked.{items_pieces}
 use Rattle.bz_layout.specs.Pieces.{Piece, piece, bytes_of, comments, indent, suffix_piece}
 use Rattle.bz_layout.proofs.Pieces.{bytes_append}
 use Rattle.bz_layout_laws.specs.Legible.{AreComments}
 use Rattle.bz_layout_laws.specs.TextsOfKinds.{HaveTexts, SegsHaveTexts}
 use Rattle.bz_attribute.specs.Effects.{has, with_args, with_comment}
 use Rattle.bz_attribute.specs.RowPlaces.{IsLocal}
-use Rattle.bz_attribute.specs.Rules.{Rule, first_named, ident_of, is_named, is_operator_item, is_text as is_named_so, name_of, rule_of}
+use Rattle.bz_attribute.specs.Rules.{Rule, first_named, ident_of, is_named, is_text as is_named_so, name_of, rule_of}
 use Rattle.bz_attribute.proofs.Locals.{edit_local, is_first_named, kept_first}
 use Rattle.bz_attribute.proofs.RuleNodes.{rule_nodes}
 use Rattle.bz_canonical.specs.Canonical.{Between, HasPlace, argument_lines, first_args, rule_args}
@@ -29,7 +30,7 @@ use Rattle.bz_canonical.specs.private.Segments.{AreNotesFront}
 use Rattle.bz_canonical.proofs.Taken.{taken}
 
 -- a comment begins with a number sign
-begins_sign : (text : List ℕ) → is_comment text ≡ true → (rest : List ℕ) × (text ≡ 35 ∷ rest)
+pub begins_sign : (text : List ℕ) → is_comment text ≡ true → (rest : List ℕ) × (text ≡ 35 ∷ rest)
 begins_sign [] h = absurd (false≢true h)
 begins_sign (b ∷ bs) h = (bs, ap (λ x. x ∷ bs) (eqb-true b 35 (and_parts (b == 35) _ (and_parts _ _ h).0).0))
 
@@ -46,14 +47,14 @@ not_true : (b : Bool) → not b ≡ true → b ≡ false
 not_true true h = absurd (false≢true h)
 not_true false h = refl
 
-one_line : (text : List ℕ) → is_comment text ≡ true → list_any is_newline text ≡ false
+pub one_line : (text : List ℕ) → is_comment text ≡ true → list_any is_newline text ≡ false
 one_line text h = not_true (list_any is_newline text) (and_parts _ (not (list_any is_newline text)) (and_parts _ _ h).0).1
 
 or_none : (a b : Bool) → (a || b) ≡ false → (a ≡ false) × (b ≡ false)
 or_none true b none = absurd (false≢true (sym none))
 or_none false b none = (refl, none)
 
-line_same : (n m x y : List ℕ) → list_any is_newline n ≡ false → list_any is_newline m ≡ false → n ++ (10 ∷ x) ≡ m ++ (10 ∷ y) → n ≡ m
+pub line_same : (n m x y : List ℕ) → list_any is_newline n ≡ false → list_any is_newline m ≡ false → n ++ (10 ∷ x) ≡ m ++ (10 ∷ y) → n ≡ m
 line_same [] [] x y hn hm is = refl
 line_same [] (b ∷ m) x y hn hm is =
     let same : 10 ≡ b = cc in
@@ -147,7 +148,7 @@ as_is_local : (attr : List ℕ) → IsLocal attr (λ args. args)
 as_is_local attr = record { absent = λ args none. sym (append-nil args); there = λ args a is. kept_first attr args a is }
 
 as_is_same : (s : Statement) (r : Rule) → rule_of s.nodes ≡ Some r → with_args (λ args. args) s ≡ s
-as_is_same s r is = rw is (ap (λ (nodes : List Item). record s { nodes = nodes }) (rule_nodes [] s.nodes r is))
+as_is_same s r is = rw is (ap (λ (nodes : List Item). record s { nodes = nodes }) (rule_nodes s.nodes r is))
 
 left_of : (text front rest : List ℕ) → text ≡ front ++ rest → drop (length text - length rest) text ≡ rest
 left_of text front rest is = ap (λ t. drop (length t - length rest) t) is ∙ ap (λ n. drop n (front ++ rest)) size ∙ drop-append_seam front rest

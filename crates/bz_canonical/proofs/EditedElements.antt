@@ -11,9 +11,9 @@ use Rattle.bz_canonical.specs.declared.edited.ListEdit.{ListEdit}
 use Rattle.bz_canonical.specs.declared.edited.NewString.{NewString}
 use Rattle.bz_canonical.specs.declared.edited.Passed.{Passed}
 use Rattle.bz_canonical.specs.declared.lists.ReadElement.{ReadElement}
-use Rattle.bz_canonical.specs.declared.put_arguments.Pending.{Pending}
+use Rattle.bz_canonical.specs.declared.arguments.Pending.{Pending}
 use Rattle.bz_canonical.specs.private.Edited.{AreEdited, IsHeld, become, edited, edited_one, have_meant, is_meant, one_more}
-use Rattle.bz_canonical.specs.private.Rewritten.{Element, IsElementRead, element_line, element_lines, element_written}
+use Rattle.bz_canonical.specs.private.Elements.{Element, IsElementRead, element_line, element_lines, element_written}
 use Rattle.bz_canonical.proofs.ElementLists.{flat_one, longer, one_at_least, one_of_two, or_yes, passed_more, passed_none}
 use Rattle.bz_canonical.proofs.GroupSegments.{or_no, second_of_more}
 use Rattle.bz_canonical.proofs.Pendings.{pend_more, pend_same}

@@ -15,10 +15,10 @@ use Rattle.bz_canonical.specs.declared.edited.ListEdit.{ListEdit}
 use Rattle.bz_canonical.specs.declared.edited.PassedList.{PassedList}
 use Rattle.bz_canonical.specs.private.Added.{IsListAlone, have_word, is_word, list_arg}
 use Rattle.bz_canonical.specs.private.Edited.{AreEdited, IsListEdited, IsWritten, Stays, edited, have_meant}
-use Rattle.bz_canonical.specs.private.Rewritten.{Element, element_lines, is_noted}
+use Rattle.bz_canonical.specs.private.Elements.{Element, element_lines, is_noted}
 use Rattle.bz_canonical.proofs.ElementLists.{closed, elements_read, or_yes, written_broken}
 use Rattle.bz_canonical.proofs.ListLines.{head_front, list_alone}
-use Rattle.bz_canonical.proofs.PutArguments.{argument_bytes, laid}
+use Rattle.bz_canonical.proofs.ReadArguments.{argument_bytes, laid}
 
 abbrev pub segment_of : Element → Segment
 segment_of e = record { before = e.before; nodes = leaf String e.token ∷ []; suffix = e.suffix }

@@ -9,8 +9,8 @@ use Rattle.std.proofs.lemmas.List.Folds.{list_any-append}
 use Rattle.bz_token.specs.Common.{is_filled}
 use Rattle.bz_token.specs.declared.token.Kind.TheVariants.{Operator, String}
 use Rattle.bz_tree.specs.declared.tree.GroupKind.TheVariants.{List as ListKind}
-use Rattle.bz_layout.specs.Broken.{count, have_comments, is_broken}
-use Rattle.bz_layout.specs.Layout.{breaks, broken_segs, item_pieces}
+use Rattle.bz_layout.specs.Walked.{count, have_comments, is_broken, broken_segs, item_pieces}
+use Rattle.bz_layout.specs.Layout.{breaks}
 use Rattle.bz_layout.specs.Pieces.{Piece, piece, bytes_of, comments, indent, suffix_piece}
 use Rattle.bz_layout.specs.Respell.{respell}
 use Rattle.bz_layout.specs.declared.broken.Style.TheVariants.{Broken}
@@ -19,7 +19,8 @@ use Rattle.bz_layout.proofs.Pieces.{bytes_append}
 use Rattle.bz_layout_laws.specs.FreeLayout.{broken_by, flat_by, free, item_by, own}
 use Rattle.bz_canonical.specs.declared.lists.ReadElement.{ReadElement}
 use Rattle.bz_canonical.specs.declared.lists.ReadString.{ReadString}
-use Rattle.bz_canonical.specs.private.Rewritten.{AreElements, AreElementsRead, ArePassed, Element, IsElementRead, IsListRead, IsSingleFront, IsStringRead, as_is, between, closing, element_line, element_lines, element_list, element_segs, element_stands, element_written, elements_as_is, elements_stand, is_noted, others_in_place, spelling}
+use Rattle.bz_canonical.specs.private.Elements.{AreElements, AreElementsRead, ArePassed, Element, IsElementRead, IsListRead, as_is, separator, closing, element_line, element_lines, element_list, element_segs, element_stands, element_written, elements_as_is, elements_stand, is_noted, others_in_place}
+use Rattle.bz_canonical.specs.private.Strings.{IsSingleFront, IsStringRead, spelling}
 use Rattle.bz_canonical.specs.private.Segments.{AreNotesFront, IsBesideFront}
 use Rattle.bz_canonical.proofs.GroupSegments.{second_of_more}
 use Rattle.bz_canonical.proofs.Taken.{taken}
@@ -114,7 +115,7 @@ pub stand_one : (lines one : Bool) (es : List Element) (e : Element) → one ≡
 stand_one true one es e is = sym (flat_one (element_line as_is) es e)
 stand_one false one [] e is = rw is (sym (append-nil e.token))
 stand_one false one (x ∷ xs) e is =
-    ap (λ b. (x.token ++ others_in_place xs) ++ (between b ++ e.token)) (is ∙ one_first (length xs))
+    ap (λ b. (x.token ++ others_in_place xs) ++ (separator b ++ e.token)) (is ∙ one_first (length xs))
     ∙ append_assoc x.token (others_in_place xs) (44 ∷ 32 ∷ e.token) ∙ ap (λ (t : List ℕ). x.token ++ t) (sym (flat_one (λ e. 44 ∷ 32 ∷ e.token) xs e))
   where
     one_first : (n : ℕ) → nat_le 1 (suc n) ≡ true
@@ -273,7 +274,7 @@ element_read text below inner comma d e read above line front_is s is side back_
     whole : (C S T next : List ℕ) → (C ++ (10 ∷ indent 2)) ++ (T ++ ((44 ∷ S) ++ next)) ≡ (C ++ (10 ∷ (indent 2 ++ (T ++ (44 ∷ S))))) ++ next
     whole C S T next = simp append_assoc
 
-pub place_read : (one : Bool) (text inner : List ℕ) (read : ReadElement) → text ≡ between one ++ inner → IsStringRead inner read.string → read.rest.now ≡ read.string.rest.now → read.front.now ≡ codes "\n        "
+pub place_read : (one : Bool) (text inner : List ℕ) (read : ReadElement) → text ≡ separator one ++ inner → IsStringRead inner read.string → read.rest.now ≡ read.string.rest.now → read.front.now ≡ codes "\n        "
     → read.back.now ≡ codes "," → read.noted ≡ false → read.otherwise ≡ true → IsElementRead false one text read
 place_read one text inner read is s rest_is front_is back_is noted_is otherwise_is =
     let T : List ℕ = read.string.token.now in
@@ -284,7 +285,7 @@ place_read one text inner read is s rest_is front_is back_is noted_is otherwise_
       string_is = s.spells;
       front_is = front_is;
       back_is = back_is;
-      front = is ∙ ap (λ (t : List ℕ). between one ++ t) (s.front ∙ ap (λ (t : List ℕ). T ++ t) (sym rest_is)) ∙ sym (append_assoc (between one) T read.rest.now);
+      front = is ∙ ap (λ (t : List ℕ). separator one ++ t) (s.front ∙ ap (λ (t : List ℕ). T ++ t) (sym rest_is)) ∙ sym (append_assoc (separator one) T read.rest.now);
       spells = λ i. front_is i ++ (s.spells i ++ back_is i);
       noted_is = sym noted_is;
       bare = λ no. refl;

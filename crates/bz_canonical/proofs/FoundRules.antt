@@ -6,7 +6,7 @@ use Rattle.std.specs.List.{concat}
 use Rattle.std.proofs.lemmas.List.{length-append, length-map, take_rest}
 use Rattle.bz_canonical.specs.Canonical.{AreReadAlone}
 use Rattle.bz_canonical.specs.SealedRules.{are_asked, count_sealed}
-use Rattle.bz_canonical.specs.Spans.{AreSpans, IsSpannedIn, NamedRule, front_text, kept, name_argument}
+use Rattle.bz_canonical.specs.Spans.{AreSpans, IsSpannedIn, NamedRule, front_text, is_asked, kept, name_argument}
 use Rattle.bz_canonical.specs.declared.spans.ArgumentSpan.{ArgumentSpan}
 use Rattle.bz_canonical.proofs.CutTexts.{rest_at}
 use Rattle.bz_canonical.proofs.RuleParts.{first_span}
@@ -23,10 +23,10 @@ pub record HasOthers (depth : ℕ) (names : List (List ℕ)) (r : NamedRule) (ch
 others_of : (depth : ℕ) (names : List (List ℕ)) (r : NamedRule) (stands : List (List ℕ)) (chunk written : List ℕ) (spans : List ArgumentSpan) (d : ArgumentSpan) → 0 < length spans → IsSpannedIn depth names r stands chunk written spans
     → HasOthers depth names r chunk (drop 1 spans)
 others_of depth names r stands chunk written spans d some is =
-    by stands (get_or spans 0 d) (drop 1 spans) (subst (λ ss. AreSpans names (length (front_text r.notes r.kind)) (length (front_text r.notes r.kind)) (name_argument r.name ∷ r.args) stands ss) (first_span spans d some) is.spanned.are) is.chunk_is (is.reads (are_asked (drop 1 spans)))
+    by stands (get_or spans 0 d) (drop 1 spans) (subst (λ ss. AreSpans names (length (front_text r.notes r.kind)) (length (front_text r.notes r.kind)) (name_argument r.name ∷ r.args) stands ss) (first_span spans d some) is.spanned.are) is.chunk_is (is.reads (false ∷ are_asked (drop 1 spans)))
   where
     by : (ls : List (List ℕ)) (span : ArgumentSpan) (ss : List ArgumentSpan) → AreSpans names (length (front_text r.notes r.kind)) (length (front_text r.notes r.kind)) (name_argument r.name ∷ r.args) ls (span ∷ ss)
-        → chunk ≡ front_text r.notes r.kind ++ (concat ls ++ is.back) → AreReadAlone depth (concat (kept (are_asked ss) (drop 1 ls))) (kept (are_asked ss) r.args) → HasOthers depth names r chunk ss
+        → chunk ≡ front_text r.notes r.kind ++ (concat ls ++ is.back) → AreReadAlone depth (concat (kept (false ∷ are_asked ss) ls)) (kept (are_asked ss) r.args) → HasOthers depth names r chunk ss
     by [] span ss are text reads = absurd are
     by (l ∷ ls) span ss are text reads = record {
       from = span.to;
@@ -57,4 +57,4 @@ none_kept (false ∷ bs) (a ∷ args) is = none_kept bs args (omega (arith, is))
 
 -- none but the name is asked for
 pub none_asked : (spans : List ArgumentSpan) (args : List Segment) → count_sealed (are_asked spans) ≡ length spans → [] ≡ segs_parts (segs_of (kept (are_asked spans) args))
-none_asked spans args is = sym (ap (λ xs. segs_parts (segs_of xs)) (none_kept (are_asked spans) args (is ∙ sym (length-map spans (λ s. s.asked)))))
+none_asked spans args is = sym (ap (λ xs. segs_parts (segs_of xs)) (none_kept (are_asked spans) args (is ∙ sym (length-map spans is_asked))))

@@ -8,18 +8,15 @@ use Rattle.bz_tree.specs.declared.tree.GroupKind.{GroupKind}
 use Rattle.bz_tree.specs.declared.tree.GroupKind.TheVariants.{Call, RuleCall, Load, Paren, List as ListKind, Index, Dict, ListComp, DictComp}
 use Rattle.bz_tree.specs.private.Productions.{IsTest, IsChain, IsTerm, IsArg, IsEntry, AreArgs, AreTests, AreEntries, AreLoadArgs}
 use Rattle.std.proofs.lemmas.Bool.{false≢true}
-use Rattle.bz_tree.specs.Statement.{is_call}
 use Rattle.bz_layout_laws.specs.Legible.{AreComments}
-use Rattle.bz_tree.specs.Tree.{Item, leaf, Items, no_items, item, Segs, no_segs, seg}
+use Rattle.bz_tree.specs.Tree.{Item, leaf, Items, no_items, item, Segs, no_segs, seg, is_call}
 use Rattle.bz_layout.specs.declared.spacing.Edge.{Edge}
 use Rattle.bz_layout.specs.declared.spacing.Edge.TheVariants.{Start, Operator as EdgeOperator, Operand as EdgeOperand}
 use Rattle.bz_layout.specs.declared.spacing.Gap.{Gap}
 use Rattle.bz_layout.specs.declared.spacing.Gap.TheVariants.{Closed, Space, Line}
 use Rattle.bz_layout.specs.declared.broken.Style.TheVariants.{Broken}
-use Rattle.bz_layout.specs.Broken.{segs_hold, have_comments}
-use Rattle.bz_layout.specs.Layout.{item_pieces, items_pieces, broken_segs, flat_segs}
+use Rattle.bz_layout.specs.Walked.{segs_hold, have_comments, item_pieces, items_pieces, broken_segs, flat_segs, closes_up, edge_after, gap_before}
 use Rattle.bz_layout.specs.Pieces.{Piece, piece, gap_bytes, bytes_of, comment_lines, comments, indent, suffix_piece}
-use Rattle.bz_layout.specs.Spacing.{closes_up, edge_after, gap_before}
 use Rattle.bz_layout.proofs.Pieces.{bytes_append}
 use Rattle.bz_canonical.specs.private.Fronts.{IsTokenFront}
 use Rattle.bz_canonical.specs.private.Values.{IsValueFront, AreNodesFront}

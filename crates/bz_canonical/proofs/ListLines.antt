@@ -22,10 +22,12 @@ use Rattle.bz_canonical.specs.Added.{LacksInLines}
 use Rattle.bz_rule.specs.declared.forms.ListValue.{ListValue}
 use Rattle.bz_canonical.specs.Canonical.{AreReadAlone, read_alone, rule_args, small_rule, small_text}
 use Rattle.bz_canonical.specs.private.Added.{AreOthers, IsListAlone, have_word, is_word, list_arg}
-use Rattle.bz_canonical.specs.private.Rewritten.{AreElementsRead, Element, IsHeadRead, IsLast, IsPlaced, Placed, closing, element_segs, placed_lines}
+use Rattle.bz_canonical.specs.private.Elements.{AreElementsRead, Element, IsLast, closing, element_segs}
+use Rattle.bz_canonical.specs.private.Arguments.{IsHeadRead}
+use Rattle.bz_canonical.specs.private.Placed.{IsPlaced, Placed, placed_lines}
 use Rattle.bz_canonical.proofs.ElementLists.{elements_read}
 use Rattle.bz_canonical.proofs.GroupSegments.{or_no}
-use Rattle.bz_canonical.proofs.PutArguments.{list_is_placed, list_lines, list_placed, standing}
+use Rattle.bz_canonical.proofs.ReadArguments.{list_is_placed, list_lines, list_placed, standing}
 use Rattle.bz_canonical.proofs.SmallRules.{small_bytes, small_formed}
 
 absurd_of : {A : Type 0} → false ≡ true → A

@@ -1,12 +1,12 @@
 -- Where the arguments of a rule stand.
 use Rattle.std.proofs.Common.{◌≡◌, ℕ, ◌+◌, length, List, [], ◌∷◌, ◌++◌, Bool, true, false, refl, sym, ap, ◌∙◌, arith, append_assoc, append-nil, subst, bytes_eq}
 use Rattle.std.specs.Prelude.{codes, flat_map, map, Option, Some}
-use Rattle.std.specs.List.{list_any}
+use Rattle.std.specs.List.{position}
 use Rattle.std.proofs.lemmas.List.{length-append}
 use Rattle.bz_token.specs.declared.token.Kind.TheVariants.{Identifier, Operator}
 use Rattle.bz_tree.specs.declared.tree.GroupKind.TheVariants.{RuleCall}
 use Rattle.bz_tree.specs.Tree.{Item, leaf, Segment, items_of}
-use Rattle.bz_layout.specs.Layout.{items_pieces}
+use Rattle.bz_layout.specs.Walked.{items_pieces}
 use Rattle.bz_layout.specs.Pieces.{Piece, piece, bytes_of, comments, indent, suffix_piece}
 use Rattle.bz_layout.specs.declared.broken.Style.TheVariants.{Broken}
 use Rattle.bz_layout.specs.declared.spacing.Edge.TheVariants.{Start}
@@ -17,13 +17,16 @@ use Rattle.bz_attribute.specs.Rules.{is_named}
 use Rattle.bz_canonical.specs.Canonical.{argument_lines}
 use Rattle.bz_canonical.specs.Spans.{AreSpans, IsSpan}
 use Rattle.bz_canonical.specs.declared.spans.ArgumentSpan.{ArgumentSpan}
-use Rattle.bz_canonical.specs.declared.spans.Notes.{Notes}
+use Rattle.bz_canonical.specs.declared.spans.NamesSought.{NamesSought}
 use Rattle.bz_canonical.specs.declared.spans.Place.{Place}
 use Rattle.bz_canonical.specs.private.Noted.{AreNoted, IsSpanBetween}
-use Rattle.bz_canonical.specs.private.Rewritten.{IsArgumentRead, Placed, args_of, placed_lines}
+use Rattle.bz_canonical.specs.private.Arguments.{IsArgumentRead}
+use Rattle.bz_canonical.specs.private.Placed.{Placed, args_of, placed_lines}
 use Rattle.bz_canonical.proofs.ArgumentLines.{lines_append}
 use Rattle.bz_canonical.proofs.SingleStrings.{bytes_same}
-use Rattle.bz_canonical.proofs.PutArguments.{append_read, none_read, or_true, single_read}
+use Rattle.bz_canonical.proofs.ReadRules.{some_lines}
+use Rattle.bz_token.specs.Common.{is_empty}
+use Rattle.bz_canonical.proofs.ReadArguments.{append_read, none_read, or_true, single_read}
 
 -- the lines of an argument that has a name
 
@@ -47,20 +50,20 @@ named_inner notes word value suffix = by notes (items_pieces Broken 1 (Some Rule
 has_inner : (a : Segment) (word : List ℕ) (value : List Item) → a.nodes ≡ leaf Identifier word ∷ leaf Operator (codes "=") ∷ value → HasInner a
 has_inner a word value is = subst (λ (nodes : List Item). HasInner (record { before = a.before; nodes = nodes; suffix = a.suffix })) (sym is) (named_inner a.before word value a.suffix)
 
--- which names it has
+-- which of the names it has
 named_by : (names : List (List ℕ)) (a : Segment) (word : List ℕ) (value : List Item) → a.nodes ≡ leaf Identifier word ∷ leaf Operator (codes "=") ∷ value
-    → list_any (λ name. bytes_eq name word) names ≡ list_any (λ name. is_named name a) names
-named_by names a word value is = ap (λ (nodes : List Item). list_any (λ name. is_named name (record { before = a.before; nodes = nodes; suffix = a.suffix })) names) (sym is)
+    → position (λ name. bytes_eq name word) names ≡ position (λ name. is_named name a) names
+named_by names a word value is = ap (λ (nodes : List Item). position (λ name. is_named name (record { before = a.before; nodes = nodes; suffix = a.suffix })) names) (sym is)
 
 same_word : (a b : List ℕ) → bytes_eq a a ≡ bytes_eq a b → a ≡ b
 same_word a b is = same_bytes a b (sym is ∙ bytes_same a)
 
 -- the span of an argument that was passed
-span_is : (names : List (List ℕ)) (depth from start : ℕ) (name at comma rest w : List ℕ) (asked : Bool) (before to : Place) (span : ArgumentSpan) → (read : IsArgumentRead depth name at rest w (bytes_eq name name))
-    → comma ≡ 44 ∷ (bytes_of (suffix_piece read.placed.arg.suffix) ++ rest) → asked ≡ list_any (λ n. bytes_eq n name) names → before.stands ≡ from → before.written ≡ start
-    → to.stands ≡ from + length (placed_lines read.placed) → to.written ≡ start + length w → IsSpanBetween asked before (length comma) (length rest) to span
+span_is : (names : List (List ℕ)) (depth from start : ℕ) (name at comma rest w : List ℕ) (named : Option ℕ) (before to : Place) (span : ArgumentSpan) → (read : IsArgumentRead depth name at rest w (bytes_eq name name))
+    → comma ≡ 44 ∷ (bytes_of (suffix_piece read.placed.arg.suffix) ++ rest) → named ≡ position (λ n. bytes_eq n name) names → before.stands ≡ from → before.written ≡ start
+    → to.stands ≡ from + length (placed_lines read.placed) → to.written ≡ start + length w → IsSpanBetween named before (length comma) (length rest) to span
     → IsSpan names from start read.placed.arg (placed_lines read.placed) span
-span_is names depth from start name at comma rest w asked before to span read comma_is asked_is from_is start_is to_is end_is s =
+span_is names depth from start name at comma rest w named before to span read comma_is named_is from_is start_is to_is end_is s =
     let a : Segment = read.placed.arg in
     let inner = has_inner a read.word read.value read.nodes_is in
     let S : List ℕ = bytes_of (suffix_piece a.suffix) in
@@ -69,7 +72,8 @@ span_is names depth from start name at comma rest w asked before to span read co
     record {
       inner = inner.0;
       lines = inner.1;
-      asked = s.asked_is ∙ asked_is ∙ ap (λ (w : List ℕ). list_any (λ n. bytes_eq n w) names) word ∙ named_by names a read.word read.value read.nodes_is;
+      some = subst (λ (t : List ℕ). is_empty t ≡ false) (append-nil (placed_lines read.placed)) (some_lines read.placed []);
+      named = s.named_is ∙ named_is ∙ ap (λ (w : List ℕ). position (λ n. bytes_eq n w) names) word ∙ named_by names a read.word read.value read.nodes_is;
       from_is = s.from_is ∙ from_is;
       to_is = s.to_is ∙ to_is;
       start_is = s.start_is ∙ start_is;
@@ -99,14 +103,14 @@ spans_more names from start (q ∷ ps) (y ∷ ys) p x are is =
     omega (arith, ap length (lines_append (q.arg ∷ []) (args_of ps)), length-append (argument_lines (q.arg ∷ [])) W, are.0.end_is) in
     (are.0, spans_more names y.to y.end ps ys p x are.1 (one_span names (y.to + length L) (y.end + length W) _ _ p.arg (placed_lines p) x stood wrote is))
 
-pub none_noted : (notes : Notes) (text begun : List ℕ) (old : List ArgumentSpan) → AreNoted notes text text begun [] old old false
+pub none_noted : (notes : NamesSought) (text begun : List ℕ) (old : List ArgumentSpan) → AreNoted notes text text begun [] old old false
 none_noted notes text begun old = record { read = none_read notes.depth text; more = []; all = sym (append-nil old); are = λ from is. tt }
 
-pub noted_more : (notes : Notes) (text at comma rest begun w v name : List ℕ) (old new : List ArgumentSpan) (one asked : Bool) (from to : Place) (span : ArgumentSpan) → AreNoted notes text at begun w old new one
-    → (read : IsArgumentRead notes.depth name at rest v (bytes_eq name name)) → comma ≡ 44 ∷ (bytes_of (suffix_piece read.placed.arg.suffix) ++ rest) → asked ≡ list_any (λ n. bytes_eq n name) notes.names.now
+pub noted_more : (notes : NamesSought) (text at comma rest begun w v name : List ℕ) (old new : List ArgumentSpan) (one : Bool) (named : Option ℕ) (from to : Place) (span : ArgumentSpan) → AreNoted notes text at begun w old new one
+    → (read : IsArgumentRead notes.depth name at rest v (bytes_eq name name)) → comma ≡ 44 ∷ (bytes_of (suffix_piece read.placed.arg.suffix) ++ rest) → named ≡ position (λ n. bytes_eq n name) notes.names.now
     → from.stands + length at ≡ notes.len → from.written ≡ length (begun ++ w) → to.stands + length rest ≡ notes.len → to.written ≡ length ((begun ++ w) ++ v)
-    → IsSpanBetween asked from (length comma) (length rest) to span → AreNoted notes text rest begun (w ++ v) old (new ++ span ∷ []) true
-noted_more notes text at comma rest begun w v name old new one asked from to span a read comma_is asked_is from_is start_is to_is end_is s =
+    → IsSpanBetween named from (length comma) (length rest) to span → AreNoted notes text rest begun (w ++ v) old (new ++ span ∷ []) true
+noted_more notes text at comma rest begun w v name old new one named from to span a read comma_is named_is from_is start_is to_is end_is s =
     let ps : List Placed = a.read.placed in
     let L : List ℕ = flat_map placed_lines ps in
     let lines : List ℕ = placed_lines read.placed in
@@ -118,6 +122,6 @@ noted_more notes text at comma rest begun w v name old new one asked from to spa
       more = a.more ++ span ∷ [];
       all = ap (λ (xs : List ArgumentSpan). xs ++ span ∷ []) a.all ∙ append_assoc old a.more (span ∷ []);
       are = λ f f_is. spans_more notes.names.now f (length begun) ps a.more read.placed span (a.are f f_is)
-          (span_is notes.names.now notes.depth (f + length L) (length begun + length (argument_lines (args_of ps))) name at comma rest v asked from to span read comma_is asked_is
+          (span_is notes.names.now notes.depth (f + length L) (length begun + length (argument_lines (args_of ps))) name at comma rest v named from to span read comma_is named_is
           (omega (arith, f_is, from_is, stood)) (start_is ∙ begins) (omega (arith, f_is, to_is, stood, next)) (end_is ∙ length-append (begun ++ w) v ∙ ap (λ n. n + length v) begins) s);
     })

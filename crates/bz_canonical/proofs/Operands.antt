@@ -14,8 +14,9 @@ use Rattle.bz_tree.specs.Tree.{leaf, group, Segs}
 use Rattle.bz_layout.specs.declared.spacing.Gap.{Gap}
 use Rattle.bz_layout.specs.declared.spacing.Gap.TheVariants.{Line, Closed}
 use Rattle.bz_layout.specs.declared.broken.Style.TheVariants.{Broken}
-use Rattle.bz_layout.specs.Broken.{is_broken, breaks_by_count, segs_hold, have_comments, count}
-use Rattle.bz_layout.specs.Layout.{opening, closing, has_commas, breaks, broken_segs, flat_segs}
+use Rattle.bz_layout.specs.Broken.{breaks_by_count}
+use Rattle.bz_layout.specs.Walked.{is_broken, segs_hold, have_comments, count, opening, closing, broken_segs, flat_segs}
+use Rattle.bz_layout.specs.Layout.{has_commas, breaks}
 use Rattle.bz_layout.specs.Pieces.{Piece, piece, gap_bytes, bytes_of, indent, comments}
 use Rattle.bz_layout.specs.Respell.{respell}
 use Rattle.bz_layout.proofs.Pieces.{bytes_append}

@@ -9,10 +9,9 @@ use Rattle.bz_layout.specs.declared.spacing.Edge.TheVariants.{Start}
 use Rattle.bz_layout.specs.declared.spacing.Gap.{Gap}
 use Rattle.bz_layout.specs.declared.spacing.Gap.TheVariants.{Closed, Space, Line}
 use Rattle.bz_layout.specs.declared.broken.Style.TheVariants.{Broken}
-use Rattle.bz_layout.specs.Broken.{count, have_comments, is_broken, segs_hold}
-use Rattle.bz_layout.specs.Layout.{broken_segs, closing, flat_segs, has_commas, item_pieces, items_pieces, opening}
+use Rattle.bz_layout.specs.Walked.{count, have_comments, is_broken, segs_hold, broken_segs, closing, flat_segs, item_pieces, items_pieces, opening, edge_after, gap_before}
+use Rattle.bz_layout.specs.Layout.{has_commas}
 use Rattle.bz_layout.specs.Pieces.{Piece, piece, comma_if, comments, suffix_piece}
-use Rattle.bz_layout.specs.Spacing.{edge_after, gap_before}
 use Rattle.bz_layout_laws.specs.FreeLayout.{own, Stand, Stands, SegsStand, broken_by, flat_by, item_by, item_spelled_by, items_by, items_spelled_by, segs_spelled_by}
 use Rattle.bz_layout_laws.specs.Spelled.{spelled, spelled_items, spelled_segs}
 use Rattle.bz_token.specs.Common.{is_filled}

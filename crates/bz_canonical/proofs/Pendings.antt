@@ -1,7 +1,7 @@
 -- What is written up to here, and is not in the buffer yet.
 use Rattle.std.proofs.Common.{◌≡◌, ◌<◌, ℕ, ◌-◌, List, [], ◌++◌, refl, length, take, sym, ap, ◌∙◌, arith, append_assoc, subst}
 use Rattle.std.proofs.lemmas.List.{length-append}
-use Rattle.bz_canonical.specs.private.Rewritten.{IsPending}
+use Rattle.bz_canonical.specs.private.Pendings.{IsPending}
 use Rattle.bz_canonical.proofs.Taken.{taken}
 
 -- more that stands as it is written

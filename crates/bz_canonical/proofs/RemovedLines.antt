@@ -20,7 +20,7 @@ use Rattle.bz_canonical.specs.declared.edited.EditedList.TheVariants.{Unchanged,
 use Rattle.bz_canonical.specs.declared.edited.ListEdit.{ListEdit}
 use Rattle.bz_canonical.specs.private.Added.{is_word, list_arg}
 use Rattle.bz_canonical.specs.private.Edited.{EditsElements, edited, have_meant}
-use Rattle.bz_canonical.specs.private.Rewritten.{Element, element_segs}
+use Rattle.bz_canonical.specs.private.Elements.{Element, element_segs}
 use Rattle.bz_canonical.proofs.EditedLines.{have_is, no_new, segment_of, sought}
 use Rattle.bz_canonical.proofs.ListLines.{chooses_is}
 

@@ -20,7 +20,7 @@ use Rattle.bz_canonical.specs.declared.edited.NewString.{NewString}
 use Rattle.bz_rule.specs.declared.forms.ReplacedValue.{ReplacedValue}
 use Rattle.bz_canonical.specs.private.Added.{list_arg}
 use Rattle.bz_canonical.specs.private.Edited.{EditsElements, edited, have_meant, is_meant}
-use Rattle.bz_canonical.specs.private.Rewritten.{Element, element_segs}
+use Rattle.bz_canonical.specs.private.Elements.{Element, element_segs}
 use Rattle.bz_canonical.proofs.EditedLines.{segment_of}
 use Rattle.bz_canonical.proofs.GroupSegments.{or_no}
 use Rattle.bz_canonical.proofs.ListLines.{first_is}

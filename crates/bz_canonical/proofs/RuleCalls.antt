@@ -9,16 +9,16 @@ use Rattle.bz_token.proofs.Classes.{same_bytes}
 use Rattle.bz_token.specs.declared.token.Kind.TheVariants.{Identifier, String, Operator}
 use Rattle.bz_token.specs.Lexical.{is_text, keywords}
 use Rattle.bz_tree.specs.declared.tree.GroupKind.TheVariants.{RuleCall}
-use Rattle.bz_tree.specs.Tree.{Item, leaf, group, Items, no_items, item, Segs, no_segs, seg, list_of, segments}
+use Rattle.bz_tree.specs.Tree.{Item, leaf, group, Items, no_items, item, Segs, no_segs, seg, list_of, segments, is_operator_item}
 use Rattle.bz_layout.specs.declared.spacing.Edge.TheVariants.{Start, Operator as EdgeOperator}
 use Rattle.bz_layout.specs.declared.spacing.Gap.{Gap}
 use Rattle.bz_layout.specs.declared.spacing.Gap.TheVariants.{Closed, Space, Line}
 use Rattle.bz_layout.specs.declared.broken.Style.TheVariants.{Broken}
-use Rattle.bz_layout.specs.Broken.{breaks_by_count, count, segs_hold, is_broken}
-use Rattle.bz_layout.specs.Layout.{items_pieces, item_pieces, broken_segs, flat_segs}
+use Rattle.bz_layout.specs.Broken.{breaks_by_count}
+use Rattle.bz_layout.specs.Walked.{count, segs_hold, is_broken, items_pieces, item_pieces, broken_segs, flat_segs}
 use Rattle.bz_layout.specs.Pieces.{Piece, piece, bytes_of, comments, comma_if, gap_bytes, indent, suffix_piece}
 use Rattle.bz_layout.proofs.Pieces.{bytes_append}
-use Rattle.bz_attribute.specs.Rules.{first_named, ident_of, is_operator_item, is_text as is_text_of, name_of, string_value as value_string, value}
+use Rattle.bz_attribute.specs.Rules.{first_named, ident_of, is_text as is_text_of, name_of, string_value as value_string, value}
 use Rattle.bz_canonical.specs.private.Fronts.{IsTokenFront, IsQuotedFront}
 use Rattle.bz_canonical.specs.private.Segments.{AreNotesFront, AreSegmentsFront, IsBesideFront, IsGroupFront}
 use Rattle.bz_canonical.specs.Canonical.{HasArgumentName}

@@ -1,7 +1,8 @@
--- Rules of which each argument is written the same are written the same; a sealed argument has the lines of another.
+-- Rules whose arguments are written the same are written the same; a sealed argument has the lines of another.
 use Rattle.std.proofs.Common.{◌≡◌, ◌≤◌, ℕ, suc, List, [], ◌∷◌, ◌++◌, Bool, true, false, length, refl, sym, ap, ◌∙◌, arith, append_assoc, append-nil}
+use Rattle.std.proofs.lemmas.Bool.{false≢true}
 use Rattle.std.proofs.lemmas.Bool.Decides.{nat_tests}
-use Rattle.std.specs.Prelude.{codes, nat_le, Option, Some, None, if◌then◌else◌}
+use Rattle.std.specs.Prelude.{◌||◌, codes, nat_le, Option, Some, None, if◌then◌else◌}
 use Rattle.bz_token.specs.Common.{is_empty, is_filled}
 use Rattle.bz_token.specs.declared.token.Kind.TheVariants.{Newline, Operator}
 use Rattle.bz_tree.specs.declared.tree.GroupKind.TheVariants.{RuleCall}
@@ -11,38 +12,16 @@ use Rattle.bz_layout.specs.declared.spacing.Edge.TheVariants.{Start}
 use Rattle.bz_layout.specs.declared.spacing.Gap.{Gap}
 use Rattle.bz_layout.specs.declared.spacing.Gap.TheVariants.{Closed, Line}
 use Rattle.bz_layout.specs.declared.broken.Style.TheVariants.{Broken}
-use Rattle.bz_layout.specs.Broken.{count, have_comments, is_broken, segs_hold}
-use Rattle.bz_layout.specs.Layout.{breaks, broken_segs, is_comment, item_pieces, items_pieces, layout_text, statement_line}
+use Rattle.bz_layout.specs.Walked.{count, have_comments, is_broken, segs_hold, broken_segs, item_pieces, items_pieces, statement_line, edge_after, gap_before}
+use Rattle.bz_layout.proofs.SameLayout.{layout_text_is}
+use Rattle.bz_layout.specs.Layout.{breaks, is_comment, layout_text}
 use Rattle.bz_layout.specs.Pieces.{Piece, piece, bytes_of, comment_lines, comments, gap_bytes, suffix_piece}
-use Rattle.bz_layout.specs.Spacing.{edge_after, gap_before}
 use Rattle.bz_layout.proofs.Pieces.{bytes_append}
 use Rattle.bz_attribute.specs.Effects.{nodes_of}
 use Rattle.bz_attribute.specs.Rules.{Rule, rule_of}
 use Rattle.bz_attribute.proofs.RuleNodes.{rule_nodes}
 use Rattle.bz_canonical.specs.Canonical.{argument_lines}
 use Rattle.bz_canonical.specs.SealedArguments.{beside_text, lines_around, own_lines, sealed_argument}
-use Rattle.bz_canonical.proofs.ArgumentLines.{lines_append}
-use Rattle.bz_canonical.proofs.Places.{some_or}
-
--- argument by argument, the lines are the same
-abbrev pub HaveSameLines : List Segment → List Segment → Type 0
-HaveSameLines [] [] = Unit {0}
-HaveSameLines [] (b ∷ bs) = ⊥
-HaveSameLines (a ∷ args) [] = ⊥
-HaveSameLines (a ∷ args) (b ∷ others) = (argument_lines (a ∷ []) ≡ argument_lines (b ∷ [])) × HaveSameLines args others
-
-pub lines_same : (args others : List Segment) → HaveSameLines args others → argument_lines args ≡ argument_lines others
-lines_same [] [] same = refl
-lines_same [] (b ∷ others) same = absurd same
-lines_same (a ∷ args) [] same = absurd same
-lines_same (a ∷ args) (b ∷ others) same =
-    lines_append (a ∷ []) args ∙ (λ i. same.0 i ++ lines_same args others same.1 i) ∙ sym (lines_append (b ∷ []) others)
-
-count_same : (args others : List Segment) → HaveSameLines args others → count (segs_of args) ≡ count (segs_of others)
-count_same [] [] same = refl
-count_same [] (b ∷ others) same = absurd same
-count_same (a ∷ args) [] same = absurd same
-count_same (a ∷ args) (b ∷ others) same = ap suc (count_same args others same.1)
 
 count_is : (args : List Segment) → count (segs_of args) ≡ length args
 count_is [] = refl
@@ -51,25 +30,45 @@ count_is (a ∷ args) = ap suc (count_is args)
 two_counted : (n m : ℕ) → n ≡ m → 2 ≤ m → nat_le 2 n ≡ true
 two_counted n m is two = grind (arith, nat_tests, is, two)
 
--- a call of two arguments or more stands on lines, whatever they are
-call_lines : (gap : Gap) (args : List Segment) (one_comma : Bool) (end : List (List ℕ)) → nat_le 2 (count (segs_of args)) ≡ true
+-- What keeps a call of these arguments on lines: comments of them, or that they are two or more.
+abbrev pub StayOnLines : List Segment → Type 0
+StayOnLines args = (have_comments (segs_of args) || nat_le 2 (count (segs_of args))) ≡ true
+
+pub comments_stay : (args : List Segment) → have_comments (segs_of args) ≡ true → StayOnLines args
+comments_stay args are = rw are refl
+
+pub two_stay : (args : List Segment) → 2 ≤ length args → StayOnLines args
+two_stay args two = either (have_comments (segs_of args)) (nat_le 2 (count (segs_of args))) (two_counted _ _ (count_is args) two)
+  where
+    either : (c n : Bool) → n ≡ true → (c || n) ≡ true
+    either true n is = refl
+    either false n is = is
+
+on_lines : (e c n x : Bool) → (c || n) ≡ true → (e || c || n || x) ≡ true
+on_lines true c n x h = refl
+on_lines false true n x h = refl
+on_lines false false true x h = refl
+on_lines false false false x h = absurd (false≢true h)
+
+-- such a call stands on lines, whatever its arguments are
+call_lines : (gap : Gap) (args : List Segment) (one_comma : Bool) (end : List (List ℕ)) → StayOnLines args
     → bytes_of (item_pieces Broken 0 gap (group RuleCall (segs_of args) one_comma end))
     ≡ gap_bytes gap ++ (40 ∷ (argument_lines args ++ bytes_of (comments 1 end ++ piece (Line 0) Operator (codes ")") ∷ [])))
-call_lines gap args one_comma end many =
+call_lines gap args one_comma end stay =
     whole (segs_of args) (is_broken RuleCall (segs_of args) end (segs_hold (segs_of args)))
-    (some_or (is_filled end) (have_comments (segs_of args)) (nat_le 2 (count (segs_of args))) _ many) _
+    (on_lines (is_filled end) (have_comments (segs_of args)) (nat_le 2 (count (segs_of args))) _ stay) _
   where
     whole : (ss : Segs) (b : Bool) → b ≡ true → (A : List Piece)
         → gap_bytes gap ++ (40 ∷ bytes_of (if breaks Broken b then broken_segs Broken 1 RuleCall true ss ++ (comments 1 end ++ piece (Line 0) Operator (codes ")") ∷ []) else A))
         ≡ gap_bytes gap ++ (40 ∷ (bytes_of (broken_segs Broken 1 RuleCall true ss) ++ bytes_of (comments 1 end ++ piece (Line 0) Operator (codes ")") ∷ [])))
     whole ss b on A = rw (on, bytes_append (broken_segs Broken 1 RuleCall true ss) (comments 1 end ++ piece (Line 0) Operator (codes ")") ∷ [])) refl
 
-call_same : (args others : List Segment) (one_comma : Bool) (end : List (List ℕ)) → HaveSameLines args others → 2 ≤ length args
+call_same : (args others : List Segment) (one_comma : Bool) (end : List (List ℕ)) → argument_lines args ≡ argument_lines others → StayOnLines args → StayOnLines others
     → (gap : Gap) → bytes_of (item_pieces Broken 0 gap (group RuleCall (segs_of args) one_comma end)) ≡ bytes_of (item_pieces Broken 0 gap (group RuleCall (segs_of others) one_comma end))
-call_same args others one_comma end same two gap =
-    call_lines gap args one_comma end (two_counted _ _ (count_is args) two)
-    ∙ ap (λ (t : List ℕ). gap_bytes gap ++ (40 ∷ (t ++ bytes_of (comments 1 end ++ piece (Line 0) Operator (codes ")") ∷ [])))) (lines_same args others same)
-    ∙ sym (call_lines gap others one_comma end (two_counted _ _ (sym (count_same args others same) ∙ count_is args) two))
+call_same args others one_comma end same stay others_stay gap =
+    call_lines gap args one_comma end stay
+    ∙ ap (λ (t : List ℕ). gap_bytes gap ++ (40 ∷ (t ++ bytes_of (comments 1 end ++ piece (Line 0) Operator (codes ")") ∷ [])))) same
+    ∙ sym (call_lines gap others one_comma end others_stay)
 
 -- the call after the kind
 nodes_same : (args others : List Segment) (one_comma : Bool) (end : List (List ℕ))
@@ -93,9 +92,11 @@ text_same : (s : Statement) (nodes : List Item)
     → bytes_of (items_pieces Broken 0 None Closed Start (items_of s.nodes)) ≡ bytes_of (items_pieces Broken 0 None Closed Start (items_of nodes))
     → layout_text s ≡ layout_text (record s { nodes = nodes })
 text_same s nodes same =
-    bytes_append (comment_lines s.before) (if is_comment s.class then [] else statement_line s)
+    layout_text_is s
+    ∙ bytes_append (comment_lines s.before) (if is_comment s.class then [] else statement_line s)
     ∙ ap (λ (t : List ℕ). bytes_of (comment_lines s.before) ++ t) (by (is_comment s.class))
     ∙ sym (bytes_append (comment_lines s.before) (if is_comment s.class then [] else statement_line (record s { nodes = nodes })))
+    ∙ sym (layout_text_is (record s { nodes = nodes }))
   where
     end : List Piece
     end = suffix_piece s.suffix ++ piece Closed Newline (codes "\n") ∷ []
@@ -107,15 +108,15 @@ text_same s nodes same =
         ∙ (λ i. same i ++ bytes_of end)
         ∙ sym (bytes_append (items_pieces Broken 0 None Closed Start (items_of nodes)) end)
 
--- Rules that differ in their arguments alone, each with the same lines, are written the same where they have two or more.
+-- Rules that differ in their arguments alone, which have the same lines, are written the same where both stay on lines.
 pub rules_written_same : (s t : Statement) (rule : Rule) (args : List Segment) → rule_of s.nodes ≡ Some rule → rule_of t.nodes ≡ Some (record rule { args = args })
-    → t ≡ record s { nodes = t.nodes } → HaveSameLines rule.args args → 2 ≤ length rule.args → layout_text s ≡ layout_text t
-rules_written_same s t rule args is is_other rest same two =
-    let from : nodes_of rule ≡ s.nodes = rule_nodes [] s.nodes rule is in
-    let to : nodes_of (record rule { args = args }) ≡ t.nodes = rule_nodes [] t.nodes (record rule { args = args }) is_other in
+    → t ≡ record s { nodes = t.nodes } → argument_lines rule.args ≡ argument_lines args → StayOnLines rule.args → StayOnLines args → layout_text s ≡ layout_text t
+rules_written_same s t rule args is is_other rest same stay others_stay =
+    let from : nodes_of rule ≡ s.nodes = rule_nodes s.nodes rule is in
+    let to : nodes_of (record rule { args = args }) ≡ t.nodes = rule_nodes t.nodes (record rule { args = args }) is_other in
     text_same s t.nodes (
     ap (λ (xs : List Item). bytes_of (items_pieces Broken 0 None Closed Start (items_of xs))) (sym from)
-    ∙ nodes_same rule.args args rule.one_comma rule.end (call_same rule.args args rule.one_comma rule.end same two) Closed Start rule.kind
+    ∙ nodes_same rule.args args rule.one_comma rule.end (call_same rule.args args rule.one_comma rule.end same stay others_stay) Closed Start rule.kind
     ∙ ap (λ (xs : List Item). bytes_of (items_pieces Broken 0 None Closed Start (items_of xs))) to
     )
     ∙ ap layout_text (sym rest)
@@ -124,7 +125,7 @@ rules_written_same s t rule args is is_other rest same two =
 pub rules_same : (s t : Statement) (rule : Rule) (args : List Segment) → rule_of s.nodes ≡ Some rule → rule_of t.nodes ≡ Some (record rule { args = args })
     → t ≡ record s { nodes = t.nodes } → rule.args ≡ args → s ≡ t
 rules_same s t rule args is is_other rest same =
-    let nodes : s.nodes ≡ t.nodes = sym (rule_nodes [] s.nodes rule is) ∙ ap (λ (xs : List Segment). nodes_of (record rule { args = xs })) same ∙ rule_nodes [] t.nodes (record rule { args = args }) is_other in
+    let nodes : s.nodes ≡ t.nodes = sym (rule_nodes s.nodes rule is) ∙ ap (λ (xs : List Segment). nodes_of (record rule { args = xs })) same ∙ rule_nodes t.nodes (record rule { args = args }) is_other in
     (λ i. record s { nodes = nodes i }) ∙ sym rest
 
 -- what is written of a sealed argument
@@ -146,25 +147,6 @@ nodes_begin : (nodes : List Item) → is_empty nodes ≡ false
 nodes_begin [] some = absurd cc
 nodes_begin (leaf kind text ∷ xs) some = refl
 nodes_begin (group kind segs one_comma end ∷ xs) some = refl
-
-above_begin : (before : List (List ℕ)) (below : List Piece) → bytes_of below ≡ codes "\n    " ++ first_text below
-    → bytes_of (comments 1 before ++ below) ≡ codes "\n    " ++ first_text (comments 1 before ++ below)
-above_begin [] below is = is
-above_begin (c ∷ before) below is = refl
-
--- the text of an argument's lines
-abbrev pub argument_text : Segment → List ℕ
-argument_text a = first_text (comments 1 a.before ++ items_pieces Broken 1 (Some RuleCall) (Line 1) Start (items_of a.nodes))
-
-pub lines_are_around : (a : Segment) → is_empty a.nodes ≡ false → argument_lines (a ∷ []) ≡ lines_around (argument_text a) a.suffix
-lines_are_around a some =
-    let nodes : List Piece = items_pieces Broken 1 (Some RuleCall) (Line 1) Start (items_of a.nodes) in
-    let begin : bytes_of (comments 1 a.before ++ nodes) ≡ codes "\n    " ++ argument_text a = above_begin a.before nodes (nodes_begin a.nodes some) in
-    bytes_append (comments 1 a.before) (nodes ++ (piece Closed Operator (codes ",") ∷ (suffix_piece a.suffix ++ [])))
-    ∙ ap (λ (t : List ℕ). bytes_of (comments 1 a.before) ++ t) (bytes_append nodes (piece Closed Operator (codes ",") ∷ (suffix_piece a.suffix ++ [])))
-    ∙ sym (append_assoc (bytes_of (comments 1 a.before)) (bytes_of nodes) _)
-    ∙ ap (λ (t : List ℕ). t ++ (codes "," ++ bytes_of (suffix_piece a.suffix ++ []))) (sym (bytes_append (comments 1 a.before) nodes) ∙ begin)
-    ∙ ap (λ (t : List ℕ). codes "\n    " ++ (argument_text a ++ (codes "," ++ t))) (beside_is a.suffix)
 
 -- the same as lines of their own
 pub own_lines_are : (a : Segment) (text : List ℕ) → argument_lines (a ∷ []) ≡ lines_around text a.suffix → argument_lines (a ∷ []) ++ 10 ∷ [] ≡ 10 ∷ own_lines text a.suffix

@@ -1,47 +1,136 @@
 -- A rule some of whose arguments are sealed.
-use Rattle.std.proofs.Common.{◌≡◌, ℕ, suc, List, [], ◌∷◌, ◌++◌, Bool, true, false, drop, get_or, length, refl, subst, ap, sym, ◌∙◌, append-nil, bytes_eq, if◌then◌else◌, ◌<◌}
-use Rattle.std.specs.Prelude.{Some}
+use Rattle.std.proofs.Common.{◌≡◌, ℕ, suc, ◌+◌, List, [], ◌∷◌, ◌++◌, Bool, true, false, drop, get_or, length, refl, subst, ap, sym, ◌∙◌, append_assoc, append-nil, bytes_eq, if◌then◌else◌, ◌<◌, arith}
+use Rattle.std.specs.Prelude.{Some, is_some, nat_le, ◌&&◌, ◌||◌}
+use Rattle.std.specs.List.{list_any, position_from}
+use Rattle.std.proofs.lemmas.Iterator.Adapters.{position_from-zero}
+use Rattle.std.proofs.lemmas.Bool.{false≢true}
+use Rattle.std.proofs.lemmas.List.{length-append}
+use Rattle.std.proofs.lemmas.List.Folds.{list_any-append}
+use Rattle.bz_token.specs.Common.{is_filled}
 use Rattle.bz_token.specs.declared.token.Kind.TheVariants.{Identifier}
-use Rattle.bz_tree.specs.Tree.{Segment, leaf}
-use Rattle.bz_layout.specs.Pieces.{bytes_of, suffix_piece}
+use Rattle.bz_tree.specs.declared.tree.GroupKind.TheVariants.{RuleCall}
+use Rattle.bz_tree.specs.Tree.{Segment, leaf, segs_of}
+use Rattle.bz_layout.specs.declared.broken.Style.TheVariants.{Broken}
+use Rattle.bz_layout.specs.Broken.{has_comment}
+use Rattle.bz_layout.specs.Walked.{broken_segs}
+use Rattle.bz_layout.specs.Pieces.{bytes_of, comments, suffix_piece}
+use Rattle.bz_layout.proofs.Pieces.{bytes_append}
+use Rattle.bz_attribute.specs.Rules.{is_named}
 use Rattle.bz_attribute.proofs.Views.{segments_of}
-use Rattle.bz_rule.specs.Sealed.{AreSealed, IsSealed, is_among}
+use Rattle.bz_rule.specs.Sealed.{AreSealed, IsSealed, StandsFor, is_among}
 use Rattle.bz_rule.specs.Sealed.AreSealed.{all_done, same, sealed as sealed_more}
 use Rattle.bz_canonical.specs.Canonical.{argument_lines}
-use Rattle.bz_canonical.specs.SealedRules.{are_alike, are_asked, count_sealed, inner_text, sealed, sealed_args, sealed_rule}
-use Rattle.bz_canonical.specs.Spans.{AreSpans, IsSpanned, NamedRule, front_text, name_argument, statement_of}
+use Rattle.bz_canonical.specs.SealedRules.{are_alike, are_asked, as_comment, count_sealed, ends_run, inner_text, sealed, sealed_after, sealed_args, sealed_from, sealed_rule}
+use Rattle.bz_canonical.specs.Spans.{AreSpans, IsSpan, IsSpanned, NamedRule, is_asked, front_text, name_argument, statement_of}
 use Rattle.bz_canonical.specs.declared.spans.ArgumentSpan.{ArgumentSpan}
+use Rattle.bz_canonical.proofs.ArgumentLines.{lines_append}
 use Rattle.bz_canonical.proofs.ArgumentParts.{inner_is}
 use Rattle.bz_canonical.proofs.RuleParts.{first_span}
+use Rattle.bz_canonical.proofs.SealedRuns.{AreAbove, Waits, comment_above, goes_on, more_wait, none_waits, nothing_waits}
 use Rattle.bz_canonical.proofs.SingleStrings.{bytes_same}
 
-unnamed : (names : List (List ℕ)) (a : Segment) → is_among names (sealed a) ≡ false
-unnamed [] a = refl
-unnamed (n ∷ ns) a = unnamed ns a
-
+-- An argument and what stands for it are alike where their lines are the same.
 pub same_lines : (a : Segment) (inner : List ℕ) → argument_lines (a ∷ []) ≡ 10 ∷ 32 ∷ 32 ∷ 32 ∷ 32 ∷ (inner ++ 44 ∷ bytes_of (suffix_piece a.suffix)) → argument_lines (sealed a ∷ []) ≡ argument_lines (a ∷ [])
 same_lines a inner is =
     ap (λ t. 10 ∷ 32 ∷ 32 ∷ 32 ∷ 32 ∷ (inner_text a ++ 44 ∷ bytes_of t)) (append-nil (suffix_piece a.suffix))
     ∙ ap (λ t. 10 ∷ 32 ∷ 32 ∷ 32 ∷ 32 ∷ (t ++ 44 ∷ bytes_of (suffix_piece a.suffix))) (inner_is inner (bytes_of (suffix_piece a.suffix)) (argument_lines (a ∷ [])) is) ∙ sym is
 
+lines_after : (run : List Segment) (a : Segment) (inner : List ℕ) → AreAbove run → argument_lines (a ∷ []) ≡ 10 ∷ 32 ∷ 32 ∷ 32 ∷ 32 ∷ (inner ++ 44 ∷ bytes_of (suffix_piece a.suffix))
+    → argument_lines (run ++ a ∷ []) ≡ argument_lines (sealed_after run a ∷ [])
+lines_after run a inner above is =
+    lines_append run (a ∷ []) ∙ ap (λ t. t ++ argument_lines (a ∷ [])) (sym above) ∙ ap (λ t. bytes_of (comments 1 (as_comment (argument_lines run))) ++ t) (sym (same_lines a inner is))
+    ∙ sym (bytes_append (comments 1 (as_comment (argument_lines run))) (broken_segs Broken 1 RuleCall true (segs_of (sealed a ∷ []))))
+
 equal_bytes : (xs ys : List ℕ) → xs ≡ ys → bytes_eq xs ys ≡ true
 equal_bytes xs ys is = ap (bytes_eq xs) (sym is) ∙ bytes_same xs
 
-pub are_sealed : (names : List (List ℕ)) (from start : ℕ) (args : List Segment) (stands : List (List ℕ)) (spans : List ArgumentSpan) → AreSpans names from start args stands spans
-    → AreSealed (λ a t. are_alike a t ≡ true) names (count_sealed (are_asked spans)) args (sealed_args (are_asked spans) args)
-are_sealed names from start [] [] [] are = all_done
-are_sealed names from start [] [] (s ∷ ss) are = absurd are
-are_sealed names from start [] (l ∷ ls) ss are = absurd are
-are_sealed names from start (a ∷ args) [] ss are = absurd are
-are_sealed names from start (a ∷ args) (l ∷ ls) [] are = absurd are
-are_sealed names from start (a ∷ args) (l ∷ ls) (s ∷ ss) are = by (are_sealed names s.to s.end args ls ss are.1) s.asked (sym are.0.asked)
+on_lines : (run : List Segment) (a : Segment) → (nat_le (length (run ++ a ∷ [])) 1 || has_comment (sealed_after run a)) ≡ true
+on_lines [] a = refl
+on_lines (x ∷ run) a = either (nat_le (length ((x ∷ run) ++ a ∷ [])) 1) (is_filled (as_comment (argument_lines (x ∷ run)))) (is_some a.suffix) (comment_above x run)
   where
-    by : AreSealed (λ a t. are_alike a t ≡ true) names (count_sealed (are_asked ss)) args (sealed_args (are_asked ss) args) → (b : Bool) → is_among names a ≡ b → AreSealed (λ a t. are_alike a t ≡ true) names (if b then count_sealed (are_asked ss) else suc (count_sealed (are_asked ss))) (a ∷ args) ((if b then a else sealed a) ∷ sealed_args (are_asked ss) args)
-    by others true is = same a others
-    by others false is = sealed_more (record { unasked = is; unnamed = unnamed names a; alike = equal_bytes (argument_lines (a ∷ [])) (argument_lines (sealed a ∷ [])) (sym (same_lines a are.0.inner are.0.lines)) }) others
+    either : (b above beside : Bool) → above ≡ true → (b || (above || beside)) ≡ true
+    either true above beside is = refl
+    either false true beside is = refl
+    either false false beside is = absurd (false≢true is)
+
+unnamed : (names : List (List ℕ)) (run : List Segment) (a : Segment) → is_among names (sealed_after run a) ≡ false
+unnamed [] run a = refl
+unnamed (n ∷ ns) run a = unnamed ns run a
+
+more_unasked : (names : List (List ℕ)) (run : List Segment) (a : Segment) → list_any (is_among names) run ≡ false → is_among names a ≡ false → list_any (is_among names) (run ++ a ∷ []) ≡ false
+more_unasked names run a h is = list_any-append (is_among names) run (a ∷ []) ∙ (λ i. h i || (is i || false))
+
+abbrev Alike : List Segment → Segment → Type 0
+Alike run t = are_alike run t ≡ true
+
+-- the run and the argument after it are sealed as one
+stands_for : (names : List (List ℕ)) (run : List Segment) (a : Segment) (inner : List ℕ) → AreAbove run → argument_lines (a ∷ []) ≡ 10 ∷ 32 ∷ 32 ∷ 32 ∷ 32 ∷ (inner ++ 44 ∷ bytes_of (suffix_piece a.suffix))
+    → list_any (is_among names) run ≡ false → is_among names a ≡ false → StandsFor Alike names (run ++ a ∷ []) (sealed_after run a)
+stands_for names run a inner above lines unasked is =
+    let bytes : bytes_eq (argument_lines (run ++ a ∷ [])) (argument_lines (sealed_after run a ∷ [])) ≡ true = equal_bytes _ _ (lines_after run a inner above lines) in
+    let stays : (nat_le (length (run ++ a ∷ [])) 1 || has_comment (sealed_after run a)) ≡ true = on_lines run a in
+    record {
+      unasked = more_unasked names run a unasked is;
+      unnamed = unnamed names run a;
+      alike = λ i. bytes i && stays i;
+    }
+
+some_from : {X : Type 0} (p : X → Bool) (i : ℕ) (xs : List X) → is_some (position_from p i xs) ≡ list_any p xs
+some_from p i [] = refl
+some_from p i (x ∷ xs) = by (p x) (some_from p (i + 1) xs)
+  where
+    by : (b : Bool) → is_some (position_from p (i + 1) xs) ≡ list_any p xs → is_some (if b then Some i else position_from p (i + 1) xs) ≡ (b || list_any p xs)
+    by true more = refl
+    by false more = more
+
+-- an argument is asked for if it has one of the names
+asked_among : (names : List (List ℕ)) (from start : ℕ) (a : Segment) (lines : List ℕ) (span : ArgumentSpan) → IsSpan names from start a lines span → is_asked span ≡ is_among names a
+asked_among names from start a lines span is =
+    let named : List ℕ → Bool = λ name. is_named name a in
+    ap is_some (is.named ∙ position_from-zero named names) ∙ some_from named 0 names
+
+counted : {names : List (List ℕ)} {n m : ℕ} {xs ys : List Segment} → n ≡ m → AreSealed Alike names n xs ys → AreSealed Alike names m xs ys
+counted {names} {xs} {ys} is are = subst (λ (n : ℕ). AreSealed Alike names n xs ys) is are
+
+one_run : (names : List (List ℕ)) (count : ℕ) (run : List Segment) (a t : Segment) (args others : List Segment) → StandsFor Alike names (run ++ a ∷ []) t → AreSealed Alike names count args others
+    → AreSealed Alike names (length run + suc count) (run ++ a ∷ args) (t ∷ others)
+one_run names count [] a t args others stands rest =
+    let many : suc (0 + count) ≡ 0 + suc count = omega arith in
+    counted many (sealed_more stands rest)
+one_run names count (x ∷ run) a t args others stands rest =
+    let many : suc (length (run ++ a ∷ []) + count) ≡ length (x ∷ run) + suc count = omega (arith, length-append run (a ∷ [])) in
+    counted many
+    (subst (λ (xs : List Segment). AreSealed Alike names (suc (length (run ++ a ∷ []) + count)) (x ∷ xs) (t ∷ others)) (append_assoc run (a ∷ []) args) (sealed_more stands rest))
+
+pub are_sealed : (names : List (List ℕ)) (from start : ℕ) (run args : List Segment) (stands : List (List ℕ)) (spans : List ArgumentSpan) → list_any (is_among names) run ≡ false → Waits run (are_asked spans) → AreSpans names from start args stands spans
+    → AreSealed Alike names (length run + count_sealed (are_asked spans)) (run ++ args) (sealed_from run (are_asked spans) args)
+are_sealed names from start run [] [] [] unasked waits are = subst (λ (xs : List Segment). AreSealed Alike names (length xs + 0) (xs ++ []) []) (sym (none_waits run [] refl waits)) all_done
+are_sealed names from start run [] [] (s ∷ ss) unasked waits are = absurd are
+are_sealed names from start run [] (l ∷ ls) ss unasked waits are = absurd are
+are_sealed names from start run (a ∷ args) [] ss unasked waits are = absurd are
+are_sealed names from start run (a ∷ args) (l ∷ ls) [] unasked waits are = absurd are
+are_sealed names from start run (a ∷ args) (l ∷ ls) (s ∷ ss) unasked waits are =
+    by (λ others unasked waits. are_sealed names s.to s.end others args ls ss unasked waits are.1) (is_asked s) (sym (asked_among names from start a l s are.0)) waits (ends_run (is_asked s) (are_asked ss)) refl
+  where
+    by : ((others : List Segment) → list_any (is_among names) others ≡ false → Waits others (are_asked ss) → AreSealed Alike names (length others + count_sealed (are_asked ss)) (others ++ args) (sealed_from others (are_asked ss) args))
+        → (b : Bool) → is_among names a ≡ b → Waits run (b ∷ are_asked ss) → (e : Bool) → ends_run b (are_asked ss) ≡ e
+        → AreSealed Alike names (length run + count_sealed (b ∷ are_asked ss)) (run ++ a ∷ args) (if e then (if b then a else sealed_after run a) ∷ sealed_from [] (are_asked ss) args else sealed_from (run ++ a ∷ []) (are_asked ss) args)
+    by more true is w true last =
+        let rest : AreSealed Alike names (0 + count_sealed (are_asked ss)) args (sealed_from [] (are_asked ss) args) = more [] refl (nothing_waits (are_asked ss)) in
+        subst (λ (xs : List Segment). AreSealed Alike names (length xs + count_sealed (are_asked ss)) (xs ++ a ∷ args) (a ∷ sealed_from [] (are_asked ss) args)) (sym (none_waits run (true ∷ are_asked ss) refl w)) (same a rest)
+    by more true is w false on = absurd (false≢true (sym (goes_on true (are_asked ss) on).0))
+    by more false is w true last =
+        let none : 0 + count_sealed (are_asked ss) ≡ count_sealed (are_asked ss) = omega arith in
+        let rest : AreSealed Alike names (count_sealed (are_asked ss)) args (sealed_from [] (are_asked ss) args) = counted none (more [] refl (nothing_waits (are_asked ss))) in
+        one_run names (count_sealed (are_asked ss)) run a (sealed_after run a) args (sealed_from [] (are_asked ss) args) (stands_for names run a are.0.inner w.above are.0.lines unasked is) rest
+    by more false is w false on =
+        let many : length (run ++ a ∷ []) + count_sealed (are_asked ss) ≡ length run + suc (count_sealed (are_asked ss)) = omega (arith, length-append run (a ∷ [])) in
+        counted many
+        (subst (λ (xs : List Segment). AreSealed Alike names (length (run ++ a ∷ []) + count_sealed (are_asked ss)) xs (sealed_from (run ++ a ∷ []) (are_asked ss) args)) (append_assoc run (a ∷ []) args)
+        (more (run ++ a ∷ []) (more_unasked names run a unasked is) (more_wait run a are.0.inner (are_asked ss) w.above are.0.lines (goes_on false (are_asked ss) on).1)))
 
 pub rule_sealed : (names : List (List ℕ)) (r : NamedRule) (stands : List (List ℕ)) (written : List ℕ) (spans : List ArgumentSpan) (d : ArgumentSpan) → 0 < length spans → IsSpanned names r stands written spans
-    → IsSealed (λ a t. are_alike a t ≡ true) names (count_sealed (are_asked (drop 1 spans))) (statement_of r) (statement_of (sealed_rule (are_asked (drop 1 spans)) r))
+    → IsSealed (λ run t. are_alike run t ≡ true) names (count_sealed (are_asked (drop 1 spans))) (statement_of r) (statement_of (sealed_rule (are_asked (drop 1 spans)) r))
 rule_sealed names r stands written spans d some is = record {
   rule = record { kind = leaf Identifier r.kind ∷ []; args = name_argument r.name ∷ r.args; one_comma = false; end = r.end };
   args = name_argument r.name ∷ sealed_args (are_asked (drop 1 spans)) r.args;
@@ -52,6 +141,8 @@ rule_sealed names r stands written spans d some is = record {
 }
   where
     by : (ls : List (List ℕ)) → AreSpans names (length (front_text r.notes r.kind)) (length (front_text r.notes r.kind)) (name_argument r.name ∷ r.args) ls (get_or spans 0 d ∷ drop 1 spans)
-        → AreSealed (λ a t. are_alike a t ≡ true) names (count_sealed (are_asked (drop 1 spans))) (name_argument r.name ∷ r.args) (name_argument r.name ∷ sealed_args (are_asked (drop 1 spans)) r.args)
+        → AreSealed (λ run t. are_alike run t ≡ true) names (count_sealed (are_asked (drop 1 spans))) (name_argument r.name ∷ r.args) (name_argument r.name ∷ sealed_args (are_asked (drop 1 spans)) r.args)
     by [] are = absurd are
-    by (l ∷ ls) are = same (name_argument r.name) (are_sealed names (get_or spans 0 d).to (get_or spans 0 d).end r.args ls (drop 1 spans) are.1)
+    by (l ∷ ls) are =
+        let none : 0 + count_sealed (are_asked (drop 1 spans)) ≡ count_sealed (are_asked (drop 1 spans)) = omega arith in
+        same (name_argument r.name) (counted none (are_sealed names (get_or spans 0 d).to (get_or spans 0 d).end [] r.args ls (drop 1 spans) refl (nothing_waits (are_asked (drop 1 spans))) are.1))

@@ -6,14 +6,14 @@ use Rattle.std.proofs.lemmas.Bool.{and_parts, not-true}
 use Rattle.std.proofs.lemmas.Slice.Eq.{bytes_eq-Decides}
 use Rattle.bz_token.specs.declared.scan_string.Escape.TheVariants.{Unescaped}
 use Rattle.bz_token.specs.declared.token.Kind.TheVariants.{String}
-use Rattle.bz_token.specs.Lexical.{is_string, opening, is_closed}
-use Rattle.bz_token.specs.private.Closing.{closes}
+use Rattle.bz_token.specs.Strings.{is_string, opening}
+use Rattle.bz_token.specs.private.Closing.{closes, is_closed}
 use Rattle.bz_token.specs.private.Scans.{is_plain as is_plain_in}
 use Rattle.bz_token.proofs.PlainStrings.{short, passed}
 use Rattle.bz_token.proofs.Scanning.{all_front}
 use Rattle.bz_token.proofs.StringUnits.{closes_units}
 use Rattle.bz_layout.specs.Respell.{content, is_plain, respell}
-use Rattle.bz_canonical.specs.private.Rewritten.{IsSingleFront, is_plain_inside}
+use Rattle.bz_canonical.specs.private.Strings.{IsSingleFront, is_plain_inside}
 use Rattle.bz_canonical.proofs.Taken.{taken}
 
 -- plain bytes leave a string open

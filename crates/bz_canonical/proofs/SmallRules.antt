@@ -1,6 +1,6 @@
 -- A rule of some arguments and a comment after them.
 use Rattle.std.proofs.Common.{◌≡◌, ℕ, suc, ◌+◌, length, length-append, List, [], ◌∷◌, ◌++◌, false, true, refl, sym, ap, ◌∙◌, arith, append_assoc, append-nil, subst}
-use Rattle.std.specs.Prelude.{codes, Some, None}
+use Rattle.std.specs.Prelude.{codes, None}
 use Rattle.std.proofs.lemmas.Bool.{false≢true}
 use Rattle.bz_token.specs.declared.token.Kind.TheVariants.{Comment, Identifier, Newline, Operator}
 use Rattle.bz_token.specs.Lexical.{is_text, keywords}
@@ -10,21 +10,19 @@ use Rattle.bz_tree.specs.declared.tree.GroupKind.TheVariants.{RuleCall}
 use Rattle.bz_tree.specs.Chunk.{IsStatementIn}
 use Rattle.bz_tree.proofs.Recognizer.InTable.{statement_form}
 use Rattle.bz_tree.specs.private.Productions.{IsStatement, IsExpr, IsTest, IsChain, IsTerm, IsPrimary, IsOperand, AreSuffixes, IsSuffix}
-use Rattle.bz_tree.specs.Tree.{Item, leaf, group, Segment, Statement, items_of, segs_of}
+use Rattle.bz_tree.specs.Tree.{Item, leaf, group, Segment, items_of, segs_of}
 use Rattle.bz_layout.specs.declared.spacing.Gap.TheVariants.{Closed, Line}
 use Rattle.bz_layout.specs.declared.broken.Style.TheVariants.{Broken}
-use Rattle.bz_layout.specs.Layout.{broken_segs, layout_text}
+use Rattle.bz_layout.specs.Layout.{layout_text}
+use Rattle.bz_layout.specs.Walked.{broken_segs}
+use Rattle.bz_layout.proofs.SameLayout.{layout_text_is}
 use Rattle.bz_layout.specs.Pieces.{Piece, piece, bytes_of}
 use Rattle.bz_layout.proofs.Pieces.{bytes_append}
 use Rattle.bz_layout_laws.specs.Legible.{are_some}
-use Rattle.bz_layout_laws.specs.Lineless.{lineless}
 use Rattle.bz_layout_laws.specs.WellFormed.{IsWellFormed}
 use Rattle.bz_layout_laws.proofs.WellFormed.{formed_only}
-use Rattle.bz_attribute.specs.Effects.{slot_done, with_args}
-use Rattle.bz_attribute.specs.declared.done.Done.{Done}
-use Rattle.bz_attribute.proofs.Views.{segments_of}
 use Rattle.bz_canonical.specs.Canonical.{AreReadAlone, argument_lines, small_rule, small_text}
-use Rattle.bz_canonical.specs.private.Rewritten.{AreFormed}
+use Rattle.bz_canonical.specs.private.Placed.{AreFormed}
 use Rattle.bz_canonical.specs.private.Segments.{AreSegments}
 use Rattle.bz_canonical.proofs.GroupSegments.{most}
 
@@ -58,7 +56,7 @@ small_bytes P = rw (
 ) (simp append_assoc)
 
 written : (args : List Segment) → layout_text (small_rule args) ≡ small_text (argument_lines args)
-written args = small_bytes (broken_segs Broken 1 RuleCall true (segs_of args))
+written args = layout_text_is (small_rule args) ∙ small_bytes (broken_segs Broken 1 RuleCall true (segs_of args))
 
 formed_of : (depth : ℕ) (args : List Segment) → AreSegments RuleCall depth (segs_of args) → AreFormed depth (segs_of args)
 formed_of depth args are = record { texts = are.texts; kinds = are.kinds; grammar = are.grammar; depth_fits = are.depth_fits }
@@ -67,13 +65,6 @@ pub read_alone : (depth : ℕ) (args : List Segment) → AreSegments RuleCall de
 read_alone depth args are = λ first t read.
     let only = formed_only first (suc depth) (small_rule args) t (small_formed depth args (formed_of depth args are)) (subst (λ text. IsStatementIn first (suc depth) text t) (sym (written args)) read) in
     only.0 ∙ ap (λ ss. record { before = []; nodes = leaf Identifier (codes "k") ∷ group RuleCall ss false (codes "#" ∷ []) ∷ []; suffix = None; class = RuleClass; start = 0; end = 0 }) are.stays
-
--- what is written of it after an edit, and what is told of it
-pub small_after : (f : List Segment → List Segment) (args : List Segment) (t : Statement) → lineless t ≡ lineless (small_rule args) → layout_text (with_args f t) ≡ small_text (argument_lines (f args))
-small_after f args t same = ap (λ (z : Statement). layout_text (with_args f z)) same ∙ ap (λ (xs : List Segment). layout_text (small_rule (f xs))) (segments_of args) ∙ written (f args)
-
-pub small_told : (g : List Segment → Done) (args : List Segment) (t : Statement) → lineless t ≡ lineless (small_rule args) → slot_done g (Some t) ≡ g args
-small_told g args t same = ap (λ (z : Statement). slot_done g (Some z)) same ∙ ap g (segments_of args)
 
 pub no_bytes : (C P R : List Piece) → bytes_of (C ++ (P ++ (piece Closed Operator (codes ",") ∷ R))) ≡ [] → ⊥
 no_bytes C P R none =

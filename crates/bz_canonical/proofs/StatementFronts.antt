@@ -1,5 +1,5 @@
 -- A statement with its comments, by what was read of it.
-use Rattle.std.proofs.Common.{◌≡◌, ◌≢◌, ℕ, List, [], ◌∷◌, ◌++◌, Bool, true, false, length, refl, sym, ap, ◌∙◌, arith, append_assoc, append-nil}
+use Rattle.std.proofs.Common.{◌≡◌, ◌≢◌, ℕ, List, [], ◌∷◌, ◌++◌, Bool, true, false, length, refl, sym, ap, subst, ◌∙◌, arith, append_assoc, append-nil}
 use Rattle.std.specs.Prelude.{codes, if◌then◌else◌, Option, None}
 use Rattle.std.proofs.lemmas.Bool.{false≢true}
 use Rattle.bz_token.specs.declared.token.Kind.TheVariants.{Newline}
@@ -11,7 +11,9 @@ use Rattle.bz_tree.specs.Tree.{Item, items_of}
 use Rattle.bz_layout.specs.declared.spacing.Edge.TheVariants.{Start}
 use Rattle.bz_layout.specs.declared.spacing.Gap.TheVariants.{Closed}
 use Rattle.bz_layout.specs.declared.broken.Style.TheVariants.{Broken}
-use Rattle.bz_layout.specs.Layout.{is_comment, items_pieces}
+use Rattle.bz_layout.specs.Layout.{is_comment, layout_text}
+use Rattle.bz_layout.proofs.SameLayout.{layout_text_is}
+use Rattle.bz_layout.specs.Walked.{items_pieces}
 use Rattle.bz_layout.specs.Pieces.{Piece, piece, bytes_of, comment_lines, suffix_piece}
 use Rattle.bz_layout.proofs.Pieces.{bytes_append}
 use Rattle.bz_layout_laws.specs.Legible.{are_some}
@@ -46,11 +48,17 @@ statement_front depth class name kind text start middle end rest b above s besid
   front = above.front ∙ ap (λ (t : List ℕ). bytes_of (comment_lines above.notes) ++ t)
       (s.front ∙ ap (λ (t : List ℕ). bytes_of (items_pieces Broken 0 None Closed Start (items_of s.nodes)) ++ t)
       (beside.front ∙ ap (λ (t : List ℕ). bytes_of (suffix_piece beside.note) ++ t) ends))
-      ∙ by (comment_lines above.notes) (items_pieces Broken 0 None Closed Start (items_of s.nodes)) (suffix_piece beside.note) (is_comment class) s.other;
+      ∙ by (comment_lines above.notes) (items_pieces Broken 0 None Closed Start (items_of s.nodes)) (suffix_piece beside.note) (is_comment class) s.other
+      ∙ ap (λ (t : List ℕ). t ++ rest) (sym laid);
   ends = none (is_comment class) s.other;
-  absent = λ name no. s.absent name (λ has. no (within name (comment_lines above.notes) (items_pieces Broken 0 None Closed Start (items_of s.nodes)) _ (is_comment class) s.other has));
+  absent = λ name no. s.absent name (λ has. no (subst (HasArgumentName name) (sym laid)
+      (within name (comment_lines above.notes) (items_pieces Broken 0 None Closed Start (items_of s.nodes)) (suffix_piece beside.note ++ piece Closed Newline (codes "\n") ∷ []) (is_comment class) s.other has)));
 }
   where
+    laid : layout_text (record { before = above.notes; nodes = s.nodes; suffix = beside.note; class = class; start = 0; end = 0 })
+        ≡ bytes_of (comment_lines above.notes ++ (if is_comment class then [] else items_pieces Broken 0 None Closed Start (items_of s.nodes) ++ (suffix_piece beside.note ++ piece Closed Newline (codes "\n") ∷ [])))
+    laid = layout_text_is (record { before = above.notes; nodes = s.nodes; suffix = beside.note; class = class; start = 0; end = 0 })
+
     within : (attr : List ℕ) (C P S : List Piece) (b : Bool) → b ≡ false → HasArgumentName attr (bytes_of P) → HasArgumentName attr (bytes_of (C ++ (if b then [] else P ++ S)))
     within attr C P S b is has = rw (is, bytes_append C (P ++ S), bytes_append P S) (after_it attr (bytes_of C) _ (before_it attr (bytes_of P) (bytes_of S) has))
 

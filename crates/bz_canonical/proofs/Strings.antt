@@ -4,8 +4,8 @@ use Rattle.std.specs.Prelude.{Some}
 use Rattle.std.specs.List.{list_all, flat_map, prefix_len}
 use Rattle.std.proofs.lemmas.Bool.{and_parts, not-true}
 use Rattle.bz_token.specs.declared.scan_string.Escape.TheVariants.{Unescaped}
-use Rattle.bz_token.specs.Lexical.{is_string, opening, is_closed}
-use Rattle.bz_token.specs.private.Closing.{closes}
+use Rattle.bz_token.specs.Strings.{is_string, opening}
+use Rattle.bz_token.specs.private.Closing.{closes, is_closed}
 use Rattle.bz_token.specs.private.Scans.{is_plain}
 use Rattle.bz_token.proofs.PlainStrings.{short, passed}
 use Rattle.bz_token.proofs.Scanning.{all_front}

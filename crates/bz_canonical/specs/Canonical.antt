@@ -9,9 +9,10 @@ use Rattle.bz_tree.specs.declared.tree.GroupKind.TheVariants.{RuleCall}
 use Rattle.bz_tree.specs.Tree.{Item, Segment, Statement, group, leaf, segs_of}
 use Rattle.bz_label.specs.Labels.{Package}
 use Rattle.bz_layout.specs.declared.broken.Style.TheVariants.{Broken}
-use Rattle.bz_layout.specs.Layout.{broken_segs, layout_text}
+use Rattle.bz_layout.specs.Layout.{layout_text}
+use Rattle.bz_layout.specs.Walked.{broken_segs}
 use Rattle.bz_layout.specs.Pieces.{bytes_of}
-use Rattle.bz_canonical.specs.declared.chunk.ArgumentPlace.{ArgumentPlace}
+use Rattle.bz_canonical.specs.declared.place.ArgumentPlace.{ArgumentPlace}
 use Rattle.bz_layout_laws.specs.Lineless.{lineless}
 use Rattle.bz_layout_laws.specs.TextsOfKinds.{SegsHaveTexts}
 use Rattle.bz_attribute.specs.Effects.{with_args}
@@ -102,7 +103,7 @@ pub record HasPlace (depth : ℕ) (attr : List ℕ) (s : Statement) (place : Bet
 
 -- The chunk is read as a statement of this class and name, of which `text` is written. Its first line has this number. A kind is
 -- that of a rule without a name.
-pub record IsReadBack (first depth : ℕ) (attr : List ℕ) (class : Class) (name kind : Option (List ℕ)) (place : Option Between) (chunk text : List ℕ) : Type 0 where
+pub record IsReadBack (first depth : ℕ) (class : Class) (name kind : Option (List ℕ)) (chunk text : List ℕ) : Type 0 where
   pub statement : Statement
   pub read : IsStatementIn first depth chunk statement
   pub class_is : statement.class ≡ class
@@ -111,12 +112,11 @@ pub record IsReadBack (first depth : ℕ) (attr : List ℕ) (class : Class) (nam
   pub written : layout_text statement ≡ text
   -- no argument has a name that stands nowhere in the text with its equals sign
   pub absent : (attr : List ℕ) → (HasArgumentName attr text → ⊥) → first_named attr (rule_args (rule_of statement.nodes)) ≡ None
-  pub has : IfSome place (HasPlace depth attr statement)
 
 -- The text begins with this chunk, whatever follows the text, and on whatever line the chunk begins it is read back.
-pub record IsCanonical (depth : ℕ) (attr : List ℕ) (class : Class) (name kind : Option (List ℕ)) (place : Option Between) (chunk written text : List ℕ) : Type 0 where
+pub record IsCanonical (depth : ℕ) (class : Class) (name kind : Option (List ℕ)) (chunk written text : List ℕ) : Type 0 where
   pub some : 0 < length chunk
   pub rest : List ℕ
   pub front : text ≡ chunk ++ rest
   pub ends : IsChunk chunk
-  pub read : (first : ℕ) → IsReadBack first depth attr class name kind place chunk written
+  pub read : (first : ℕ) → IsReadBack first depth class name kind chunk written

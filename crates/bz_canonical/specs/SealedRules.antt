@@ -1,13 +1,14 @@
 -- The parts of a rule of which some arguments are sealed.
-use Rattle.std.specs.Prelude.{bytes_eq, zero, ◌-◌, ℕ, suc, List, [], ◌∷◌, ◌++◌, codes, flat_map, length, map, take, drop, Bool, false, if◌then◌else◌, Option}
+use Rattle.std.specs.Prelude.{bytes_eq, zero, ◌-◌, ℕ, suc, List, [], ◌∷◌, ◌++◌, codes, flat_map, length, map, nat_le, take, drop, Bool, true, false, ◌&&◌, ◌||◌, if◌then◌else◌, Option}
 use Rattle.bz_token.specs.declared.token.Kind.TheVariants.{Identifier}
 use Rattle.bz_tree.specs.declared.tree.GroupKind.TheVariants.{RuleCall}
 use Rattle.bz_tree.specs.Rows.{RowPart, a_token, above, beside_part, closing, opening, segs_parts}
 use Rattle.bz_tree.specs.Tree.{Segment, segs_of}
+use Rattle.bz_layout.specs.Broken.{has_comment}
 use Rattle.bz_layout.specs.Pieces.{bytes_of, indent, suffix_piece}
 use Rattle.bz_canonical.specs.Canonical.{argument_lines}
 use Rattle.bz_canonical.specs.SealedArguments.{sealed_argument}
-use Rattle.bz_canonical.specs.Spans.{NamedRule}
+use Rattle.bz_canonical.specs.Spans.{NamedRule, is_asked}
 use Rattle.bz_canonical.specs.declared.spans.ArgumentSpan.{ArgumentSpan}
 
 -- bytes of a text between two places
@@ -26,14 +27,34 @@ inner_text a = take (length (drop 5 (argument_lines (a ∷ []))) - suc (length (
 abbrev pub sealed : Segment → Segment
 sealed a = sealed_argument (inner_text a) a.suffix
 
--- arguments, of which those stay that are asked for, and the others are sealed
+-- lines as one comment above what stands after them: its gap writes their first newline and indent
+abbrev pub as_comment : List ℕ → List (List ℕ)
+as_comment [] = []
+as_comment (b ∷ lines) = drop 5 (b ∷ lines) ∷ []
+
+-- An argument that is written as this one is after some others, and shows nothing of them. The comment keeps its rule on lines.
+abbrev pub sealed_after : List Segment → Segment → Segment
+sealed_after run a = record (sealed a) { before = as_comment (argument_lines run) }
+
+-- An argument is the last that is sealed as one, or it is asked for: the next one is asked for, or there is none.
+abbrev pub ends_run : Bool → List Bool → Bool
+ends_run b [] = true
+ends_run b (next ∷ asked) = b || next
+
+-- the same as below, after arguments that are sealed with the next
+abbrev pub sealed_from : List Segment → List Bool → List Segment → List Segment
+sealed_from run [] args = []
+sealed_from run (b ∷ asked) [] = []
+sealed_from run (b ∷ asked) (a ∷ args) =
+    if ends_run b asked then (if b then a else sealed_after run a) ∷ sealed_from [] asked args
+    else sealed_from (run ++ a ∷ []) asked args
+
+-- arguments, of which those stay that are asked for, and each run of the others is sealed as one
 abbrev pub sealed_args : List Bool → List Segment → List Segment
-sealed_args [] args = []
-sealed_args (b ∷ asked) [] = []
-sealed_args (b ∷ asked) (a ∷ args) = (if b then a else sealed a) ∷ sealed_args asked args
+sealed_args asked args = sealed_from [] asked args
 
 abbrev pub are_asked : List ArgumentSpan → List Bool
-are_asked spans = map (λ span. span.asked) spans
+are_asked spans = map is_asked spans
 
 -- what stands before the arguments of a rule
 abbrev pub front_parts : List (List ℕ) → List ℕ → List RowPart
@@ -60,11 +81,11 @@ abbrev pub last_end : ℕ → List ArgumentSpan → ℕ
 last_end from [] = from
 last_end from (span ∷ spans) = last_end span.end spans
 
--- Their lines are the same.
-abbrev pub are_alike : Segment → Segment → Bool
-are_alike a t = bytes_eq (argument_lines (a ∷ [])) (argument_lines (t ∷ []))
+-- The lines of both are the same, and what stands for two or more keeps its rule on lines.
+abbrev pub are_alike : List Segment → Segment → Bool
+are_alike run t = bytes_eq (argument_lines run) (argument_lines (t ∷ [])) && (nat_le (length run) 1 || has_comment t)
 
--- how many arguments are sealed
+-- how many arguments are not asked for
 abbrev pub count_sealed : List Bool → ℕ
 count_sealed [] = zero
 count_sealed (b ∷ asked) = if b then count_sealed asked else suc (count_sealed asked)

@@ -1,8 +1,10 @@
 -- Where the lines of the arguments of a rule stand, as they stand in its chunk and as they are written.
 -- Begin with `HasSpans`.
-use Rattle.std.specs.Prelude.{codes, ◌≡◌, ◌+◌, ℕ, List, [], ◌∷◌, ◌++◌, drop, length, Bool, true, false, if◌then◌else◌, Option, None}
-use Rattle.std.specs.List.{concat, list_any}
+use Rattle.std.specs.Prelude.{codes, ◌≡◌, ◌+◌, ℕ, suc, List, [], ◌∷◌, ◌++◌, length, Bool, true, false, if◌then◌else◌, Option, None, is_some}
+use Rattle.std.specs.List.{concat, position}
+use Rattle.bz_token.specs.Common.{is_empty}
 use Rattle.bz_token.specs.Lexical.{is_text}
+use Rattle.bz_token.specs.Places.{line_at}
 use Rattle.bz_token.specs.declared.token.Kind.TheVariants.{Identifier, Operator, String}
 use Rattle.bz_tree.specs.declared.tree.Class.TheVariants.{Rule as RuleClass}
 use Rattle.bz_tree.specs.declared.tree.GroupKind.TheVariants.{RuleCall}
@@ -15,17 +17,22 @@ use Rattle.bz_attribute.specs.Rules.{is_named}
 use Rattle.bz_canonical.specs.Canonical.{AreReadAlone, argument_lines}
 use Rattle.bz_canonical.specs.declared.spans.ArgumentSpan.{ArgumentSpan}
 
--- The lines of an argument, which stand so in the chunk: so many bytes are before them there, and so many in what is written.
+-- The lines of an argument, which stand so in the chunk, and are some: so many bytes are before them there, and so many in what is written.
 -- `inner` is written of it on its lines, without the first indent, the comma and the comment beside it.
 pub record IsSpan (names : List (List ℕ)) (from start : ℕ) (a : Segment) (stands : List ℕ) (span : ArgumentSpan) : Type 0 where
   pub inner : List ℕ
   pub lines : argument_lines (a ∷ []) ≡ 10 ∷ (indent 1 ++ (inner ++ (44 ∷ bytes_of (suffix_piece a.suffix))))
-  pub asked : span.asked ≡ list_any (λ name. is_named name a) names
+  pub some : is_empty stands ≡ false
+  pub named : span.named ≡ position (λ name. is_named name a) names
   pub from_is : span.from ≡ from
   pub to_is : span.to ≡ from + length stands
   pub start_is : span.start ≡ start
   pub comma_is : span.comma ≡ start + length (10 ∷ (indent 1 ++ inner))
   pub end_is : span.end ≡ start + length (argument_lines (a ∷ []))
+
+-- It has one of the names that are asked for.
+abbrev pub is_asked : ArgumentSpan → Bool
+is_asked span = is_some span.named
 
 -- one after another
 abbrev pub AreSpans : List (List ℕ) → ℕ → ℕ → List Segment → List (List ℕ) → List ArgumentSpan → Type 0
@@ -84,21 +91,24 @@ pub record IsSpanned (names : List (List ℕ)) (r : NamedRule) (stands : List (L
   pub written_is : written ≡ text_of r
   pub are : AreSpans names (length (front_text r.notes r.kind)) (length (front_text r.notes r.kind)) (name_argument r.name ∷ r.args) stands spans
 
--- The same of a rule in a chunk. The lines of any arguments after the name are read as these alone.
+-- The same of a rule in a chunk. The lines of any arguments are read as these alone.
 pub record IsSpannedIn (depth : ℕ) (names : List (List ℕ)) (r : NamedRule) (stands : List (List ℕ)) (chunk written : List ℕ) (spans : List ArgumentSpan) : Type 0 where
   pub spanned : IsSpanned names r stands written spans
   pub back : List ℕ
   pub chunk_is : chunk ≡ front_text r.notes r.kind ++ (concat stands ++ back)
-  pub reads : (keep : List Bool) → AreReadAlone depth (concat (kept keep (drop 1 stands))) (kept keep r.args)
+  pub reads : (keep : List Bool) → AreReadAlone depth (concat (kept keep stands)) (kept keep (name_argument r.name ∷ r.args))
 
--- The statement is such a rule. Its tokens and comments are texts of their kinds.
-pub record HasSpans (depth : ℕ) (names : List (List ℕ)) (s : Statement) (chunk written : List ℕ) (spans : List ArgumentSpan) : Type 0 where
+-- The statement is such a rule, in a chunk that begins on this line: the rule begins after the comments above it, and ends on the
+-- last line. Its tokens and comments are texts of their kinds.
+pub record HasSpans (first depth : ℕ) (names : List (List ℕ)) (s : Statement) (chunk written : List ℕ) (spans : List ArgumentSpan) : Type 0 where
   pub rule : NamedRule
   pub statement_is : s ≡ statement_of rule
+  pub begins_on : rule.first_line ≡ line_at first (front_text rule.notes rule.kind)
+  pub ends_on : suc rule.last_line ≡ line_at first chunk
   pub stands : List (List ℕ)
   pub spanned : IsSpannedIn depth names rule stands chunk written spans
   pub texts : SegsHaveTexts (segs_of (name_argument rule.name ∷ rule.args))
 
 -- of whatever statement is read of the chunk
 abbrev pub AreSpansOf : ℕ → List (List ℕ) → List ℕ → List ℕ → List ArgumentSpan → Type 0
-AreSpansOf depth names chunk written spans = (first : ℕ) (s : Statement) → IsStatementIn first depth chunk s → HasSpans depth names s chunk written spans
+AreSpansOf depth names chunk written spans = (first : ℕ) (s : Statement) → IsStatementIn first depth chunk s → HasSpans first depth names s chunk written spans

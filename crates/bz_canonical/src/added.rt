@@ -5,12 +5,12 @@ ghost use Rattle.std.specs.Prelude.{◌≡◌, ◌<◌, ◌∷◌, ◌++◌, IfO
 ghost use Rattle.bz_canonical.specs.Added.{AddsToLines, LacksInLines};
 ghost use Rattle.bz_canonical.specs.Canonical.{read_alone};
 ghost use Rattle.bz_canonical.specs.private.Added.{is_word, last_line};
-ghost use Rattle.bz_canonical.specs.private.Rewritten.{IsHeadRead};
+ghost use Rattle.bz_canonical.specs.private.Arguments.{IsHeadRead};
 
+use crate::arguments::read_argument_name;
 use crate::edited::{EditedList, ListEdit, put_list_edited, put_pending};
-use crate::front::after;
+use crate::front::{after, are_same};
 use crate::lists::{after_elements, is_last, is_on_lines, read_element};
-use crate::put_arguments::read_argument_head;
 use bz_attribute::equals::text_equals;
 use bz_attribute::{Env, literal_apart};
 use bz_label::{Package, quote};
@@ -93,8 +93,8 @@ pub(crate) fn list_of<'t>(text: &'t [u8], attr: &[u8], max_depth: u8) -> Option<
     if max_depth < BRACKETS {
         return None;
     }
-    let read = read_argument_head(text, attr)?;
-    if !read.named {
+    let read = read_argument_name(text)?;
+    if !are_same(attr, read.name) {
         return None;
     }
     let inside = after(read.value, b'[')?;

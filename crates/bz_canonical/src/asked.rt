@@ -6,7 +6,7 @@ ghost use Rattle.bz_tree.specs.Rows.{part_view, segs_parts};
 ghost use Rattle.bz_tree.specs.Tree.{Segment, segs_of};
 ghost use Rattle.bz_canonical.specs.Canonical.{AreReadAlone, small_text};
 ghost use Rattle.bz_canonical.specs.SealedRules.{are_asked, between, count_sealed, small_parts};
-ghost use Rattle.bz_canonical.specs.Spans.{AreSpans, kept};
+ghost use Rattle.bz_canonical.specs.Spans.{AreSpans, is_asked, kept};
 
 use crate::sealed::between;
 use crate::spans::ArgumentSpan;
@@ -20,7 +20,7 @@ const BEFORE: &str = "k(";
 
 const AFTER: &str = "\n    #\n)\n";
 
-/// Puts the rule of the arguments that are asked for, as their lines stand in the chunk, in place of the text. False:
+/// Reads the rule of the arguments that are asked for, as their lines stand in the chunk, in place of the text. False:
 /// the spans are of another chunk.
 pub(crate) fn put_asked_rule(
     chunk: &str,
@@ -43,12 +43,12 @@ pub(crate) fn put_asked_rule(
     Ok(true)
 }
 
-/// Puts the lines of the argument of this span, if it is asked for.
+/// Reads the lines of the argument of this span, if it is asked for.
 fn put_lines(chunk: &str, span: ArgumentSpan, text: &mut String) -> Result<bool, NoMemory>
     ensures { IfOk result (λ put. IsTrue put → (lines : List ℕ) → between span.from span.to chunk.now ≡ lines
-        → string_bytes text.new ≡ string_bytes text.old ++ concat (kept (span.asked ∷ []) (lines ∷ []))) }
+        → string_bytes text.new ≡ string_bytes text.old ++ concat (kept (is_asked span ∷ []) (lines ∷ []))) }
 {
-    if !span.asked {
+    if !span.is_asked() {
         return Ok(true);
     }
     let Some(lines) = between(chunk, span.from, span.to) else {
@@ -99,7 +99,7 @@ pub(crate) fn sealed_count(spans: &[ArgumentSpan]) -> usize
 {
     let mut count = 0;
     for span in spans {
-        if !span.asked {
+        if !span.is_asked() {
             count += 1;
         }
     }

@@ -7,9 +7,10 @@ ghost use Rattle.bz_layout.specs.Pieces.{indent};
 ghost use Rattle.bz_canonical.specs.Canonical.{HasPlace, between};
 ghost use Rattle.bz_canonical.specs.Commented.{TakesComment};
 
-use crate::chunk::{ArgumentPlace, without};
+use crate::chunk::without;
 use crate::comments::after_comments;
 use crate::front::after_line;
+use crate::place::ArgumentPlace;
 
 /// What is written of a rule before a comment line that is put above an argument, and after it.
 #[derive(Clone, Copy)]

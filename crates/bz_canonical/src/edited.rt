@@ -6,11 +6,11 @@ ghost use Rattle.bz_canonical.specs.private.Edited.{AreElementsEdited, EditsElem
 
 use crate::Known;
 use crate::added::{is_value, list_of};
+use crate::arguments::Pending;
 use crate::front::before;
 use crate::lists::{
     ReadElement, after_elements, is_last, is_on_lines, put_element, put_element_as, read_element,
 };
-use crate::put_arguments::Pending;
 use crate::value::either;
 use bz_label::{Package, has_value, quote};
 use bz_memory::{NoMemory, extend_from_slice};

@@ -9,7 +9,8 @@ ghost use Rattle.bz_canonical.specs.SealedRules.{are_asked, count_sealed, sealed
 ghost use Rattle.bz_canonical.specs.Spans.{AreSpans, IsSpannedIn, NamedRule, kept, statement_of};
 
 use crate::asked::{asked_parts, put_asked_rule, read_asked_rule, sealed_count};
-use crate::sealed::{SpannedRule, sealed_row};
+use crate::comments::after_comments_above;
+use crate::sealed::{SpannedRule, begins_with, between, sealed_row};
 use crate::spans::ArgumentSpan;
 use bumpalo::Bump;
 use bz_memory::NoMemory;
@@ -26,6 +27,27 @@ pub struct FoundRule<'a> {
     /// The line of its first token, and of its last.
     pub start: u64,
     pub end: u64,
+}
+
+impl<'a> FoundRule<'a> {
+    /// Its kind, which stands before its bracket, after the comments above it.
+    pub fn kind(&self) -> Option<&'a str>
+        ensures { IfSome result (λ kind. (depth : ℕ) (names : List (List ℕ)) (r : NamedRule) (stands : List (List ℕ))
+            → IsSpannedIn depth names r stands self.now.chunk.now self.now.rule.written.now self.now.rule.spans.now
+            → kind.now ≡ r.kind) }
+    {
+        let [name, ..] = self.rule.spans else {
+            return None;
+        };
+        let (front, _) = self.chunk.split_at_checked(name.from)?;
+        let line = after_comments_above(front.as_bytes());
+        if begins_with(line, b'#') {
+            return None;
+        }
+        let from = front.len().checked_sub(line.len())?;
+        let to = front.len().checked_sub(1)?;
+        between(front, from, to)
+    }
 }
 
 /// Where texts and lists of it stand.

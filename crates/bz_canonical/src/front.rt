@@ -6,7 +6,7 @@ ghost use Rattle.bz_token.specs.declared.token.Kind.TheVariants.{Comment, Identi
 ghost use Rattle.bz_token.specs.Lengths.{IsTokenOf};
 ghost use Rattle.bz_layout.specs.Pieces.{indent};
 ghost use Rattle.bz_canonical.specs.private.Fronts.{IsInfixFront, IsQuotedFront, IsTokenFront, is_infix, word_bytes};
-ghost use Rattle.bz_canonical.specs.private.Rewritten.{IsSingleFront, is_plain_inside};
+ghost use Rattle.bz_canonical.specs.private.Strings.{IsSingleFront, is_plain_inside};
 
 use crate::simple::after_simple;
 use bz_token::{comment_len, identifier_len, integer_len, string_len};
@@ -22,7 +22,7 @@ pub(crate) fn after(text: &[u8], byte: u8) -> Option<&[u8]>
     }
 }
 
-/// Bytes that stand so in each text.
+/// Bytes that stand so in each text. They are an enum, and no slices: each is compared in one step, and in no loop.
 #[derive(Clone, Copy)]
 pub(crate) enum Word {
     Equals,

@@ -2,7 +2,8 @@
 
 ghost use Rattle.std.specs.Prelude.{◌≡◌, ◌+◌, ◌<◌, ◌∷◌, ◌++◌, ◌||◌, ◌&&◌, ℕ, [], IfSome, nat_le, true, false};
 ghost use Rattle.bz_layout.specs.Broken.{breaks_by_count};
-ghost use Rattle.bz_layout.specs.Layout.{closing, has_commas, opening};
+ghost use Rattle.bz_layout.specs.Layout.{has_commas};
+ghost use Rattle.bz_layout.specs.Walked.{closing, opening};
 ghost use Rattle.bz_canonical.specs.private.Segments.{IsGroupFront};
 
 use crate::front::{after, after_line};

@@ -6,10 +6,10 @@ ghost use Rattle.bz_canonical.specs.SealedRules.{are_alike, are_asked, count_sea
 ghost use Rattle.bz_canonical.specs.Spans.{IsSpanned, NamedRule, statement_of};
 ghost use Rattle.bz_canonical.specs.declared.spans.ArgumentSpan.{ArgumentSpan};
 
-/// The rule of which `seal` makes the row has as many sealed arguments as are not asked for, and is else the rule.
+/// Of the rule of which `seal` makes the row as many arguments are sealed as are not asked for, and it is else the rule.
 pub fn rules_are_sealed()
     ensures { (names : List (List ℕ)) (r : NamedRule) (stands : List (List ℕ)) (written : List ℕ)
         (spans : List ArgumentSpan) → 0 < length spans → IsSpanned names r stands written spans
-        → IsSealed (λ a t. are_alike a t ≡ true) names (count_sealed (are_asked (drop 1 spans))) (statement_of r)
+        → IsSealed (λ run t. are_alike run t ≡ true) names (count_sealed (are_asked (drop 1 spans))) (statement_of r)
         (statement_of (sealed_rule (are_asked (drop 1 spans)) r)) }
 {}

@@ -2,17 +2,17 @@
 //!
 //! `read_canonical` recognizes what `bz_layout` writes, and not the whole language: rules, loads on one line,
 //! assignments and comment lines, of values with the spaces, lines and double quotes of the layout. What it accepts is
-//! read back as a statement, of which the layout writes the same text. In rules it also recognizes lists of strings and
-//! calls that stand otherwise, and writes these as the layout does.
+//! read back as a statement, of which the layout writes the same text. In rules it also recognizes lists of strings
+//! that stand otherwise, and writes these as the layout does.
 //!
 //! `after_x` gives what follows x at the front of a text; `read_x` also what x says; `put_x` appends to the buffer.
 #![tactic(auto)]
 
 mod added;
+mod arguments;
 mod asked;
 mod assignment;
 mod bare;
-mod calls;
 mod chunk;
 mod commented;
 mod comments;
@@ -21,30 +21,29 @@ mod found;
 mod front;
 mod group;
 pub mod laws;
-mod lined;
 mod lists;
 mod load;
-mod put_arguments;
-mod put_rule;
+mod named_rule;
+mod place;
 mod removed;
 mod replaced;
-mod rewrite;
 mod rule;
+mod rule_chunk;
 mod sealed;
 mod segments;
 mod simple;
 mod spans;
 mod statement;
 mod string_list;
-mod unnamed;
 mod value;
 
 pub use added::{lacks, put_added};
 use bz_memory::NoMemory;
-pub use chunk::{ArgumentPlace, AsksOfRules, CanonicalChunk, Lookup, read_canonical};
+pub use chunk::{AsksOfRules, CanonicalChunk, read_canonical};
 pub use commented::{CommentPlace, comment_place};
 pub use edited::EditedList;
 pub use found::{FoundRule, Room, seal};
+pub use place::{ArgumentPlace, argument_place};
 pub use removed::put_removed;
 pub use replaced::put_replaced;
 pub use sealed::SpannedRule;

@@ -3,7 +3,8 @@
 ghost use Rattle.std.specs.Prelude.{◌≡◌, ◌∷◌, ◌++◌, ℕ, Bool, List, IfOk, IfSome, IsTrue, OnOk, true, false};
 ghost use Rattle.bz_layout.specs.Pieces.{indent};
 ghost use Rattle.bz_canonical.specs.private.Segments.{IsBesideFront};
-ghost use Rattle.bz_canonical.specs.private.Rewritten.{AreElementsRead, IsElementRead, IsLast, IsListRead, IsStringRead, between, closing, element_written, spelling};
+ghost use Rattle.bz_canonical.specs.private.Elements.{AreElementsRead, IsElementRead, IsLast, IsListRead, separator, closing, element_written};
+ghost use Rattle.bz_canonical.specs.private.Strings.{IsStringRead, spelling};
 
 use crate::Known;
 use crate::comments::{AfterComments, after_comments, after_suffix};
@@ -228,7 +229,7 @@ fn read_element_in_place(text: &[u8], one: bool) -> Option<ReadElement<'_>>
 /// What follows the comma between elements in place, where there are others.
 #[inline(always)]
 fn after_others(text: &[u8], one: bool) -> Option<&[u8]>
-    ensures { IfSome result (λ rest. text.now ≡ between one ++ rest.now) }
+    ensures { IfSome result (λ rest. text.now ≡ separator one ++ rest.now) }
 {
     if one {
         return after_word(text, Word::Comma);

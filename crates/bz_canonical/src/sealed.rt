@@ -1,16 +1,17 @@
 //! The parts of a rule of which it is known where its arguments stand, where those that are not asked for are sealed.
 
-ghost use Rattle.std.specs.Prelude.{◌≡◌, ◌==◌, ◌≤◌, ◌+◌, [], ◌∷◌, ◌++◌, ℕ, List, Option, not, false, true, drop, map, IfOk, IfSome, IsTrue, OnOk, length};
+ghost use Rattle.std.specs.Prelude.{◌≡◌, ◌==◌, ◌≤◌, ◌+◌, [], ◌∷◌, ◌++◌, ℕ, List, Option, if◌then◌else◌, not, false, true, drop, map, IfOk, IfSome, IsTrue, OnOk, length};
 ghost use Rattle.std.specs.List.{prefix_len};
-ghost use Rattle.bz_token.specs.Lexical.{begins, is_text};
+ghost use Rattle.bz_token.specs.Lexical.{is_text};
 ghost use Rattle.bz_token.specs.declared.token.Kind.TheVariants.{Identifier, Kept};
 ghost use Rattle.bz_tree.specs.Rows.{IsRowOf, a_token, above, beside_part, part_view, parts_of, segment_end, segs_parts};
 ghost use Rattle.bz_tree.specs.Tree.{Segment, segs_of};
 ghost use Rattle.bz_layout.specs.Pieces.{bytes_of, indent, suffix_piece};
 ghost use Rattle.bz_layout_laws.specs.Legible.{AreComments};
 ghost use Rattle.bz_canonical.specs.Canonical.{argument_lines};
-ghost use Rattle.bz_canonical.specs.SealedRules.{IsLevel, are_asked, back_parts, between, comment_rows, front_parts, last_end, name_line, sealed, sealed_args, sealed_rule};
-ghost use Rattle.bz_canonical.specs.Spans.{AreSpans, IsSpan, IsSpanned, NamedRule, back_text, front_text, kept, name_argument, statement_of};
+ghost use Rattle.bz_canonical.specs.SealedRules.{IsLevel, are_asked, as_comment, back_parts, between, comment_rows, ends_run, front_parts, last_end, name_line, sealed_after, sealed_args, sealed_rule};
+ghost use Rattle.bz_canonical.specs.Spans.{AreSpans, IsSpan, IsSpanned, NamedRule, back_text, front_text, is_asked, kept, name_argument, statement_of};
+ghost use Rattle.bz_token.specs.Common.{begins};
 
 use crate::spans::ArgumentSpan;
 use bumpalo::Bump;
@@ -46,7 +47,7 @@ fn line_len(bytes: &[u8]) -> usize
     bytes.iter().take_while(|b| **b != b'\n').count()
 }
 
-/// Puts the comment on the line here, which begins with the indent, and answers what follows the line.
+/// Reads the comment on the line here, which begins with the indent, and answers what follows the line.
 fn put_comment<'a>(
     line: &'a str,
     indent: usize,
@@ -71,7 +72,7 @@ fn put_comment<'a>(
     Ok(Some(rest))
 }
 
-/// Puts what a sealed argument becomes, by its lines and the place of its comma in them.
+/// Reads what a sealed argument becomes, by its lines and the place of its comma in them.
 fn put_sealed<'a>(lines: &'a str, comma: usize, parts: &mut Parts<'a>) -> Result<bool, NoMemory>
     ensures { IfOk result (λ put. IsTrue put → (inner : List ℕ) (suffix : Option (List ℕ))
         → lines.now ≡ 10 ∷ (indent 1 ++ (inner ++ (44 ∷ bytes_of (suffix_piece suffix))))
@@ -89,7 +90,7 @@ fn put_sealed<'a>(lines: &'a str, comma: usize, parts: &mut Parts<'a>) -> Result
     put_beside(side, parts)
 }
 
-/// Puts the comment that follows a byte and two spaces, if anything does.
+/// Reads the comment that follows a byte and two spaces, if anything does.
 fn put_beside<'a>(side: &'a str, parts: &mut Parts<'a>) -> Result<bool, NoMemory>
     ensures { IfOk result (λ put. IsTrue put → (byte : ℕ) (suffix : Option (List ℕ))
         → side.now ≡ byte ∷ bytes_of (suffix_piece suffix)
@@ -105,7 +106,7 @@ fn put_beside<'a>(side: &'a str, parts: &mut Parts<'a>) -> Result<bool, NoMemory
     Ok(true)
 }
 
-fn begins_with(bytes: &[u8], first: u8) -> bool
+pub(crate) fn begins_with(bytes: &[u8], first: u8) -> bool
     ensures { result ≡ begins (λ b. b == first) bytes.now }
 {
     match bytes {
@@ -114,7 +115,7 @@ fn begins_with(bytes: &[u8], first: u8) -> bool
     }
 }
 
-/// Puts the comments on the lines here, each of which begins with this byte and the indent, and answers what follows.
+/// Reads the comments on the lines here, each of which begins with this byte and the indent, and answers what follows.
 fn put_comments<'a>(
     lines: &'a str,
     first: u8,
@@ -139,7 +140,7 @@ fn put_comments<'a>(
     Ok(None)
 }
 
-/// Puts the parts before the arguments of a rule.
+/// Reads the parts before the arguments of a rule.
 fn put_front<'a>(front: &'a str, parts: &mut Parts<'a>) -> Result<bool, NoMemory>
     ensures { IfOk result (λ put. IsTrue put → (notes : List (List ℕ)) (kind : List ℕ) → AreComments notes
         → is_text Identifier kind ≡ true → front.now ≡ front_text notes kind
@@ -159,7 +160,7 @@ fn put_front<'a>(front: &'a str, parts: &mut Parts<'a>) -> Result<bool, NoMemory
     Ok(true)
 }
 
-/// Puts the argument `name` of these lines.
+/// Reads the argument `name` of these lines.
 fn put_name<'a>(line: &'a str, parts: &mut Parts<'a>) -> Result<bool, NoMemory>
     ensures { IfOk result (λ put. IsTrue put → (name : List ℕ) → line.now ≡ name_line name
         → map part_view parts.new.items ≡ map part_view parts.old.items ++ segs_parts (segs_of (name_argument name ∷ []))) }
@@ -177,7 +178,7 @@ fn put_name<'a>(line: &'a str, parts: &mut Parts<'a>) -> Result<bool, NoMemory>
     Ok(true)
 }
 
-/// Puts the comments after the arguments of a rule, its bracket, and the comment beside it.
+/// Reads the comments after the arguments of a rule, its bracket, and the comment beside it.
 fn put_back<'a>(back: &'a str, parts: &mut Parts<'a>) -> Result<bool, NoMemory>
     ensures { IfOk result (λ put. IsTrue put → (end : List (List ℕ)) (suffix : Option (List ℕ)) → AreComments end
         → back.now ≡ back_text end suffix
@@ -199,56 +200,76 @@ fn put_back<'a>(back: &'a str, parts: &mut Parts<'a>) -> Result<bool, NoMemory>
     put_beside(side, parts)
 }
 
-/// Puts the arguments that have these spans: those that are asked for have these parts, one after another, and the
-/// others are sealed.
+/// Whether an argument is asked for, or is the last that is sealed as one.
+fn ends_run(span: ArgumentSpan, others: &[ArgumentSpan]) -> bool
+    ensures { result ≡ ends_run (is_asked span) (are_asked others.now) }
+{
+    match others {
+        [next, ..] => span.is_asked() || next.is_asked(),
+        [] => true,
+    }
+}
+
+/// Reads the arguments that have these spans, whose lines begin here: those that are asked for have these parts, one
+/// after another, and each run of the others is sealed as one.
 fn put_arguments<'a>(
     rule: SpannedRule<'a>,
+    first: usize,
     asked: &[Part<'a>],
     parts: &mut Parts<'a>,
 ) -> Result<bool, NoMemory>
-    ensures { IfOk result (λ put. IsTrue put → (names : List (List ℕ)) (from start : ℕ) (args : List Segment)
-        (stands : List (List ℕ)) (after : List ℕ) → AreSpans names from start args stands rule.entry.spans.now
-        → drop start rule.entry.written.now ≡ argument_lines args ++ after
+    ensures { IfOk result (λ put. IsTrue put → (names : List (List ℕ)) (from : ℕ) (args : List Segment)
+        (stands : List (List ℕ)) (after : List ℕ) → AreSpans names from first args stands rule.entry.spans.now
+        → drop first rule.entry.written.now ≡ argument_lines args ++ after
         → map part_view asked.now ≡ segs_parts (segs_of (kept (are_asked rule.entry.spans.now) args))
         → map part_view parts.new.items ≡ map part_view parts.old.items
         ++ segs_parts (segs_of (sealed_args (are_asked rule.entry.spans.now) args))) }
 {
+    let mut start = first;
     let mut at = 0;
-    for span in rule.spans {
-        let Some(next) = put_argument(rule.written, *span, &asked[at..], parts)? else {
-            return Ok(false);
-        };
-        at += next;
+    let mut rest = rule.spans;
+    while let [span, others @ ..] = rest {
+        if ends_run(*span, others) {
+            let Some(len) = put_argument(rule.written, start, *span, &asked[at..], parts)? else {
+                return Ok(false);
+            };
+            at += len;
+            start = span.end;
+        }
+        rest = others;
     }
     Ok(true)
 }
 
-/// Puts the argument of this span, which is sealed, or the first that has these parts. Answers how many of these it has.
+/// Reads the argument of this span: the first that has these parts, or one that is sealed with those whose lines begin
+/// here. Answers how many of the parts it has.
 fn put_argument<'a>(
     written: &'a str,
+    start: usize,
     span: ArgumentSpan,
     asked: &[Part<'a>],
     parts: &mut Parts<'a>,
 ) -> Result<Option<usize>, NoMemory>
     ensures within { IfOk result (λ known. IfSome known (λ len. len ≤ length asked.now)) }
-    ensures part { IfOk result (λ known. IfSome known (λ len. (names : List (List ℕ)) (from start : ℕ) (a : Segment)
-        (stands after : List ℕ) (others : List Segment) → IsSpan names from start a stands span
-        → drop start written.now ≡ argument_lines (a ∷ []) ++ after
-        → map part_view asked.now ≡ segs_parts (segs_of (kept (span.asked ∷ []) (a ∷ []) ++ others))
+    ensures part { IfOk result (λ known. IfSome known (λ len. (names : List (List ℕ)) (from : ℕ) (run : List Segment)
+        (a : Segment) (stands after : List ℕ) (others : List Segment)
+        → IsSpan names from (start + length (argument_lines run)) a stands span
+        → drop start written.now ≡ argument_lines (run ++ a ∷ []) ++ after
+        → map part_view asked.now ≡ segs_parts (segs_of (kept (is_asked span ∷ []) (a ∷ []) ++ others))
         → (map part_view (drop len asked.now) ≡ segs_parts (segs_of others))
         × (map part_view parts.new.items ≡ map part_view parts.old.items
-        ++ segs_parts (segs_of (sealed_args (span.asked ∷ []) (a ∷ [])))))) }
+        ++ segs_parts (segs_of ((if is_asked span then a else sealed_after run a) ∷ []))))) }
 {
-    if span.asked {
+    if span.is_asked() {
         return put_asked(asked, parts);
     }
-    if !put_span(written, span, parts)? {
+    if !put_span(written, start, span, parts)? {
         return Ok(None);
     }
     Ok(Some(0))
 }
 
-/// Puts the first of the arguments that have these parts, and answers how many of them it has.
+/// Reads the first of the arguments that have these parts, and answers how many of them it has.
 fn put_asked<'a>(asked: &[Part<'a>], parts: &mut Parts<'a>) -> Result<Option<usize>, NoMemory>
     ensures within { IfOk result (λ known. IfSome known (λ len. len ≤ length asked.now)) }
     ensures part { IfOk result (λ known. IfSome known (λ len. (a : Segment) (others : List Segment)
@@ -264,24 +285,46 @@ fn put_asked<'a>(asked: &[Part<'a>], parts: &mut Parts<'a>) -> Result<Option<usi
     Ok(Some(argument.to))
 }
 
-/// Puts the sealed argument of this span.
+/// Reads the argument of this span, which is sealed with those whose lines begin here.
 fn put_span<'a>(
     written: &'a str,
+    start: usize,
     span: ArgumentSpan,
     parts: &mut Parts<'a>,
 ) -> Result<bool, NoMemory>
-    ensures { IfOk result (λ put. IsTrue put → (names : List (List ℕ)) (from start : ℕ) (a : Segment)
-        (stands after : List ℕ) → IsSpan names from start a stands span
-        → drop start written.now ≡ argument_lines (a ∷ []) ++ after
-        → map part_view parts.new.items ≡ map part_view parts.old.items ++ segs_parts (segs_of (sealed a ∷ []))) }
+    ensures { IfOk result (λ put. IsTrue put → (names : List (List ℕ)) (from : ℕ) (run : List Segment) (a : Segment)
+        (stands after : List ℕ) → IsSpan names from (start + length (argument_lines run)) a stands span
+        → drop start written.now ≡ argument_lines (run ++ a ∷ []) ++ after → map part_view parts.new.items
+        ≡ map part_view parts.old.items ++ segs_parts (segs_of (sealed_after run a ∷ []))) }
 {
+    let Some(above) = between(written, start, span.start) else {
+        return Ok(false);
+    };
     let Some(lines) = between(written, span.start, span.end) else {
         return Ok(false);
     };
     let Some(comma) = span.comma.checked_sub(span.start) else {
         return Ok(false);
     };
+    if !put_above(above, parts)? {
+        return Ok(false);
+    }
     put_sealed(lines, comma, parts)
+}
+
+/// Reads the lines of some arguments as a comment, if there are any.
+fn put_above<'a>(lines: &'a str, parts: &mut Parts<'a>) -> Result<bool, NoMemory>
+    ensures { IfOk result (λ put. IsTrue put → map part_view parts.new.items
+        ≡ map part_view parts.old.items ++ map above (as_comment lines.now)) }
+{
+    if lines.is_empty() {
+        return Ok(true);
+    }
+    let Some((_, comment)) = lines.split_at_checked(5) else {
+        return Ok(false);
+    };
+    push(parts, Part::Above(comment))?;
+    Ok(true)
 }
 
 /// Where the last of these spans ends; where there is none, the place before them.
@@ -295,7 +338,7 @@ fn end_of(from: usize, spans: &[ArgumentSpan]) -> usize
     end
 }
 
-/// Puts the parts of a rule, of which the arguments after the name are sealed that are not asked for. Those that are
+/// Reads the parts of a rule, of which the arguments after the name are sealed that are not asked for. Those that are
 /// asked for have these parts, one after another. False: it is no such rule.
 pub(crate) fn put_rule<'a>(
     rule: SpannedRule<'a>,
@@ -315,7 +358,7 @@ pub(crate) fn put_rule<'a>(
     if !put_head(written, *name, parts)? {
         return Ok(false);
     }
-    if !put_arguments(SpannedRule { written, spans }, asked, parts)? {
+    if !put_arguments(SpannedRule { written, spans }, name.end, asked, parts)? {
         return Ok(false);
     }
     let Some((_, back)) = written.split_at_checked(end_of(name.end, spans)) else {
@@ -324,7 +367,7 @@ pub(crate) fn put_rule<'a>(
     put_back(back, parts)
 }
 
-/// Puts the parts of a rule up to its name, which has this span.
+/// Reads the parts of a rule up to its name, which has this span.
 fn put_head<'a>(
     written: &'a str,
     span: ArgumentSpan,

@@ -2,7 +2,7 @@
 
 ghost use Rattle.std.specs.Prelude.{◌≡◌, ◌+◌, ◌<◌, ◌∷◌, ◌++◌, ℕ, List, codes, IfSome, nat_le, true, false};
 ghost use Rattle.bz_token.specs.declared.token.Kind.TheVariants.{Identifier};
-ghost use Rattle.bz_tree.specs.Statement.{is_call};
+ghost use Rattle.bz_tree.specs.Tree.{is_call};
 ghost use Rattle.bz_layout.specs.Pieces.{indent};
 ghost use Rattle.bz_canonical.specs.private.Fronts.{IsTokenFront};
 ghost use Rattle.bz_canonical.specs.private.Segments.{AreFlatFront, AreNotesFront, AreSegmentsFront, IsSegmentFront};

@@ -1,17 +1,20 @@
 //! Where the lines of the arguments of a rule stand: noted while the rule is passed, for who looks at some of them alone.
 
 ghost use Rattle.std.specs.Prelude.{◌≡◌, ◌<◌, ◌+◌, ◌-◌, ◌∷◌, ℕ, List, None, length, take, bytes_eq, if◌then◌else◌, IfOk, IfSome, IsTrue};
-ghost use Rattle.std.specs.List.{list_any};
+ghost use Rattle.std.specs.List.{position};
+ghost use Rattle.bz_canonical.specs.Spans.{is_asked};
 ghost use Rattle.bz_canonical.specs.private.Noted.{AreNoted, IsNameSpan, IsSpanBetween, NotesRule};
-ghost use Rattle.bz_canonical.specs.private.Rewritten.{IsPending, IsRuleHead, IsRuleRead, Puts, PutsUpTo, pending};
+ghost use Rattle.bz_canonical.specs.private.Pendings.{IsPending, Reads, pending};
+ghost use Rattle.bz_canonical.specs.private.Rules.{IsRuleHead, IsRuleRead};
+ghost use Rattle.bz_canonical.specs.private.Arguments.{ReadsUpTo};
 
 use crate::Known;
-use crate::front::{are_same, before};
-use crate::put_arguments::{
-    ArgumentEnd, Pending, PutOthers, pass_last, put_other_argument, read_argument_end,
+use crate::arguments::{
+    ArgumentEnd, NamedArguments, Pending, pass_last, put_list_argument, read_argument_end,
     read_argument_name, written_len,
 };
-use crate::put_rule::{PutRule, RuleHead, put_rule_end};
+use crate::front::{are_same, before};
+use crate::named_rule::{ReadRule, RuleHead, read_rule_end};
 use bz_label::Text;
 use bz_memory::push;
 
@@ -29,13 +32,23 @@ pub struct ArgumentSpan {
     pub comma: usize,
     /// And they end here.
     pub end: usize,
-    /// The name of the argument is asked for.
-    pub asked: bool,
+    /// The index of the first of the names that are asked for which it has. None: it has none of them.
+    pub named: Option<usize>,
 }
 
-/// What is noted of the arguments of a rule.
+impl ArgumentSpan {
+    /// Whether it has a name that is asked for.
+    #[inline(always)]
+    pub(crate) fn is_asked(&self) -> bool
+        ensures { result ≡ is_asked self.now }
+    {
+        self.named.is_some()
+    }
+}
+
+/// What is sought among the arguments of a rule, to be noted.
 #[derive(Clone, Copy)]
-pub(crate) struct Notes<'c> {
+pub(crate) struct NamesSought<'c> {
     /// The names that are asked for.
     pub(crate) names: &'c [Text],
     /// So many brackets may be open in the value of an argument.
@@ -52,7 +65,7 @@ struct NotedValue<'t> {
     comma: &'t [u8],
 }
 
-/// Passes the value here and its comma, as `put_argument` does.
+/// Passes the argument here, whose name was read, up to what follows its comma.
 #[inline(always)]
 fn note_value<'t>(
     at: Pending<'t>,
@@ -62,7 +75,7 @@ fn note_value<'t>(
 ) -> Known<NotedValue<'t>>
     requires { depth < 254 }
     ensures { IfOk result (λ known. IfSome known (λ read.
-        PutsUpTo depth at.entry value.now written.old.items written.new.items read.at read.comma.now)) }
+        ReadsUpTo depth at.entry value.now written.old.items written.new.items read.at read.comma.now)) }
 {
     // Most values stand as they are written.
     if let Some(ArgumentEnd { comma, rest }) = read_argument_end(value, depth) {
@@ -72,20 +85,20 @@ fn note_value<'t>(
         };
         return Ok(Some(NotedValue { at, comma }));
     }
-    let Some(at) = put_other_argument(at, value, depth, written)? else {
+    let Some(at) = put_list_argument(at, value, depth, written)? else {
         return Ok(None);
     };
     Ok(Some(NotedValue { at, comma: at.from }))
 }
 
-/// Whether a name is among those that are asked for.
+/// The index of the first of the names that are asked for which the word is.
 #[inline(always)]
-fn is_asked(names: &[Text], word: &[u8]) -> bool
-    ensures { result ≡ list_any (λ name. bytes_eq name word.now) names.now }
+fn index_of(names: &[Text], word: &[u8]) -> Option<usize>
+    ensures { result ≡ position (λ name. bytes_eq name word.now) names.now }
 {
     names
         .iter()
-        .any(|name| are_same(name.as_str().as_bytes(), word))
+        .position(|name| are_same(name.as_str().as_bytes(), word))
 }
 
 /// How far a rule was passed.
@@ -117,8 +130,13 @@ fn place_of(len: usize, at: Pending<'_>, written: &Vec<u8>) -> Option<Place>
 
 /// Where an argument stands between these places.
 #[inline(always)]
-fn span_of(asked: bool, from: Place, value: NotedValue<'_>, to: Place) -> Option<ArgumentSpan>
-    ensures { IfSome result (IsSpanBetween asked from (length value.entry.comma.now)
+fn span_of(
+    named: Option<usize>,
+    from: Place,
+    value: NotedValue<'_>,
+    to: Place,
+) -> Option<ArgumentSpan>
+    ensures { IfSome result (IsSpanBetween named from (length value.entry.comma.now)
         (length value.entry.at.rest.now) to) }
 {
     let (comma, rest) = (value.comma.len(), value.at.rest.len());
@@ -131,7 +149,7 @@ fn span_of(asked: bool, from: Place, value: NotedValue<'_>, to: Place) -> Option
         start: from.written,
         comma: to.written - (comma - rest),
         end: to.written,
-        asked,
+        named,
     })
 }
 
@@ -139,13 +157,13 @@ fn span_of(asked: bool, from: Place, value: NotedValue<'_>, to: Place) -> Option
 #[inline(always)]
 fn note_arguments<'t>(
     from: Pending<'t>,
-    notes: Notes<'_>,
+    notes: NamesSought<'_>,
     written: &mut Vec<u8>,
     spans: &mut Vec<ArgumentSpan>,
-) -> Known<PutOthers<'t>>
+) -> Known<NamedArguments<'t>>
     requires { notes.depth < 254 }
     ensures { IfOk result (λ known. IfSome known (λ read.
-        Puts written.old.items (pending from.entry) written.new.items (pending read.at)
+        Reads written.old.items (pending from.entry) written.new.items (pending read.at)
         (λ begun w. AreNoted notes.entry from.entry.rest.now read.at.rest.now begun w
         spans.old.items spans.new.items read.one))) }
 {
@@ -156,20 +174,16 @@ fn note_arguments<'t>(
     };
     for _ in 0..from.rest.len() {
         let Some(head) = read_argument_name(at.rest) else {
-            return Ok(Some(PutOthers {
-                at,
-                one,
-                named: None,
-            }));
+            return Ok(Some(NamedArguments { at, one }));
         };
-        let asked = is_asked(notes.names, head.name);
+        let named = index_of(notes.names, head.name);
         let Some(value) = note_value(at, head.value, notes.depth, written)? else {
             return Ok(None);
         };
         let Some(next) = place_of(notes.len, value.at, written) else {
             return Ok(None);
         };
-        let Some(span) = span_of(asked, place, value, next) else {
+        let Some(span) = span_of(named, place, value, next) else {
             return Ok(None);
         };
         push(spans, span)?;
@@ -183,34 +197,33 @@ fn note_arguments<'t>(
 /// A rule that was passed.
 #[derive(Clone, Copy)]
 pub(crate) struct NotedRule<'t> {
-    pub(crate) rule: PutRule<'t>,
+    pub(crate) rule: ReadRule<'t>,
     /// It is known where its arguments stand: each has a name.
     pub(crate) known: bool,
 }
 
-/// Passes the rule here, as `put_rule` does, and notes where its arguments stand. The spans that were there are lost.
+/// Passes the rule here, as `read_rule` does, and notes where its arguments stand. The spans that were there are lost.
 #[inline(always)]
 pub(crate) fn note_rule<'t>(
     text: &'t [u8],
     head: RuleHead<'t>,
-    notes: Notes<'_>,
+    notes: NamesSought<'_>,
     written: &mut Vec<u8>,
     spans: &mut Vec<ArgumentSpan>,
 ) -> Known<NotedRule<'t>>
     requires deep { notes.depth < 253 }
     requires len { notes.len ≡ length text.now }
     requires head { IsRuleHead text.now head.name.now head.inside.now head.rest.now }
-    ensures rule { IfOk result (λ known. IfSome known (λ noted. (attr : List ℕ) → IsRuleRead (notes.entry.depth + 1)
-        attr head.entry.name.now text.now noted.rule.rest.now (if noted.rule.as_is
-        then take (length text.now - length noted.rule.rest.now) text.now else written.new.items) None)) }
+    ensures rule { IfOk result (λ known. IfSome known (λ noted. IsRuleRead (notes.entry.depth + 1)
+        head.entry.name.now text.now noted.rule.rest.now (if noted.rule.as_is
+        then take (length text.now - length noted.rule.rest.now) text.now else written.new.items))) }
     ensures spans { IfOk result (λ known. IfSome known (λ noted. IsTrue noted.known → NotesRule (notes.entry.depth + 1)
         notes.entry.names.now text.now noted.rule written.new.items spans.new.items)) }
-    ensures place { IfOk result (λ known. IfSome known (λ noted. noted.rule.place ≡ None)) }
 {
     written.clear();
     spans.clear();
-    let asked = is_asked(notes.names, b"name".as_slice());
-    let Some(name) = name_span(asked, text, head) else {
+    let named = index_of(notes.names, b"name".as_slice());
+    let Some(name) = name_span(named, text, head) else {
         return Ok(None);
     };
     push(spans, name)?;
@@ -218,13 +231,13 @@ pub(crate) fn note_rule<'t>(
         from: text,
         rest: head.rest,
     };
-    let Some(others) = note_arguments(start, notes, written, spans)? else {
+    let Some(arguments) = note_arguments(start, notes, written, spans)? else {
         return Ok(None);
     };
-    let Some(read) = pass_last(others, None, notes.depth)? else {
+    let Some(read) = pass_last(arguments, notes.depth) else {
         return Ok(None);
     };
-    let Some(rule) = put_rule_end(read, None, written)? else {
+    let Some(rule) = read_rule_end(read, written)? else {
         return Ok(None);
     };
     Ok(Some(NotedRule {
@@ -234,8 +247,8 @@ pub(crate) fn note_rule<'t>(
 }
 
 /// Where the name of a rule stands: before it nothing stands otherwise than it is written.
-fn name_span(asked: bool, text: &[u8], head: RuleHead<'_>) -> Option<ArgumentSpan>
-    ensures { IfSome result (IsNameSpan asked text.now head.entry.inside.now head.entry.rest.now) }
+fn name_span(named: Option<usize>, text: &[u8], head: RuleHead<'_>) -> Option<ArgumentSpan>
+    ensures { IfSome result (IsNameSpan named text.now head.entry.inside.now head.entry.rest.now) }
 {
     let from = text.len().checked_sub(head.inside.len())?;
     let to = text.len().checked_sub(head.rest.len())?;
@@ -245,6 +258,6 @@ fn name_span(asked: bool, text: &[u8], head: RuleHead<'_>) -> Option<ArgumentSpa
         start: from,
         comma: to.checked_sub(1)?,
         end: to,
-        asked,
+        named,
     })
 }

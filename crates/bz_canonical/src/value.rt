@@ -21,6 +21,8 @@ pub(crate) struct Value<'t> {
     pub(crate) holds: bool,
 }
 
+/// Whether one of two things holds that are known already. `||` in the middle of a function would be two ways through all
+/// that follows, for the processor and for the proof.
 pub(crate) fn either(a: bool, b: bool) -> bool
     ensures { result ≡ (a || b) }
 {

@@ -159,10 +159,6 @@ nothing_fits max ahead none long =
     let here = long [] (λ _. refl) in
     omega (arith, ap length none, here.within, here.over)
 
--- the same of what is ahead
-pub fitting_ahead : (max : ℕ) (ahead : Ahead) → ahead.ended ≡ false → IsUndecided max ahead.bytes → IsTooLong max ahead → ⊥
-fitting_ahead max ahead ended undecided long = undecided.fitting (λ rest. long rest (λ h. absurd (false≢true (sym ended ∙ h))))
-
 pub block_ends : (n : ℕ) (ahead : Ahead) (slice : List ℕ) (at_end : Bool) → slice ≡ drop n ahead.bytes → at_end ≡ ahead.ended → IsNext Ends at_end (take n ahead.bytes) slice → EndsAt ahead n
 block_ends n ahead slice at_end same ended next rest may =
     subst (λ l. EndsBefore (take n ahead.bytes) (l ++ rest)) same (next rest (λ h. may (sym ended ∙ h)))

@@ -1,9 +1,8 @@
 -- Lines, and where they end.
-use Rattle.std.proofs.Common.{◌≡◌, ℕ, ◌<◌, ◌≤◌, ◌+◌, ◌-◌, Bool, true, false, cond, ◌==◌, List, [], ◌∷◌, ◌++◌, length, take, drop, get_or, subst, refl, sym, ◌∙◌, ap, arith, append_assoc, take-append-drop}
+use Rattle.std.proofs.Common.{◌≡◌, ℕ, ◌<◌, ◌≤◌, ◌+◌, ◌-◌, Bool, true, false, ◌==◌, List, [], ◌∷◌, ◌++◌, length, take, drop, get_or, subst, refl, sym, ◌∙◌, ap, arith, append_assoc, take-append-drop}
 use Rattle.std.proofs.Math.Seq.{take-add}
-use Rattle.std.proofs.lemmas.Bool.{ne_eqb, eq-eqb, eqb-true, false≢true, false_from_ne_true}
-use Rattle.std.proofs.lemmas.List.Sums.{count_by_more_no, count_by_more_yes, sum_by-append}
-use Rattle.std.specs.Prelude.{count_by, Some, None, zero, suc}
+use Rattle.std.proofs.lemmas.Bool.{ne_eqb, eq-eqb, eqb-true, false≢true}
+use Rattle.std.specs.Prelude.{Some, None, zero, suc}
 use Rattle.memchr.specs.Find.{IsFirstByte, is_byte}
 use Rattle.std.proofs.lemmas.List.{take_more}
 use Rattle.std.proofs.lemmas.Grind.{common_steps}
@@ -60,29 +59,6 @@ line_found bytes n is = line_at bytes n 0 is.0.high (eqb-true (get_or bytes n 0)
 
 pub none_found : (bytes : List ℕ) → IsFirstByte (is_byte 10) bytes None → IsOpen bytes
 none_found bytes is = open_all bytes (length bytes) (omega arith) (open_front bytes (length bytes) (omega arith) (λ k below e. is k (omega arith) below (eq-eqb (get_or bytes k 0) 10 e)))
-
--- and it is the first of those that are counted
-zero_front : (bytes : List ℕ) (n : ℕ) → n ≤ length bytes → ((k : ℕ) → k < n → is_byte 10 (get_or bytes k 0) ≡ true → ⊥) → count_by (λ b. b == 10) (take n bytes) ≡ 0
-zero_front bytes zero h none = refl
-zero_front bytes (suc n) h none =
-    let less : n < length bytes = omega (arith, h) in
-    let next : suc n ≡ n + 1 = omega arith in
-    ap (λ m. count_by (λ b. b == 10) (take m bytes)) next
-    ∙ (count_by_more_no (λ b. b == 10) bytes n 0 less (false_from_ne_true (get_or bytes n 0 == 10) (none n (omega arith)))
-    ∙ zero_front bytes n (omega (arith, h)) (λ k below. none k (omega (arith, below))))
-
-pub newline_counted : (bytes : List ℕ) (n : ℕ) → IsFirstByte (is_byte 10) bytes (Some n) → count_by (λ b. b == 10) bytes ≡ 1 + count_by (λ b. b == 10) (drop (n + 1) bytes)
-newline_counted bytes n is =
-    ap (count_by (λ b. b == 10)) (sym (take-append-drop (n + 1) bytes))
-    ∙ (sum_by-append (λ b. cond (b == 10) 1 0) (take (n + 1) bytes) (drop (n + 1) bytes)
-    ∙ ap (λ k. k + count_by (λ b. b == 10) (drop (n + 1) bytes))
-    (count_by_more_yes (λ b. b == 10) bytes n 0 is.0.high is.1 ∙ ap (λ k. k + 1) (zero_front bytes n (omega (arith, is.0.high)) (λ k below e. is.0.before k (omega arith) below e))))
-
--- a slice without one has none
-pub none_counted : (bytes : List ℕ) → IsFirstByte (is_byte 10) bytes None → count_by (λ b. b == 10) bytes ≡ 0
-none_counted bytes is =
-    let all : take (length bytes) bytes ≡ bytes = grind (arith, common_steps) in
-    ap (count_by (λ b. b == 10)) (sym all) ∙ zero_front bytes (length bytes) (omega arith) (λ k below e. is k (omega arith) below e)
 
 -- one part of a line more
 pub open_then : (xs ys : List ℕ) → IsOpen xs → IsOpen ys → IsOpen (xs ++ ys)

@@ -1,9 +1,9 @@
--- The bytes of an input that were read and not yet taken, and the chunk that they begin with.
--- Begin with `IsUndecided` and `HasTooLong`.
--- Of later stops: 8 `EndsBefore`, `chunks`, `line_at`.
+-- The bytes of an input that were read and not yet taken, and the chunk that they begin with (this project's own rule). What
+-- a chunk is, stop 8 says: a statement with the comment lines above it, comment lines alone, or a blank line.
+-- Begin with `IsUndecided` and `IsTooLong`.
+-- Of later stops: 8 `EndsBefore`, `chunks`.
 use Rattle.std.specs.Prelude.{◌≡◌, ℕ, ◌+◌, ◌*◌, ◌<◌, ◌≤◌, Bool, false, ◌||◌, IsTrue, List, [], ◌∷◌, ◌++◌, length, take, drop, ⊤}
 use Rattle.std.specs.List.{concat}
-use Rattle.bz_token.specs.Places.{line_at}
 use Rattle.bz_token.specs.Chunks.{chunks}
 use Rattle.bz_token.specs.Cuts.{EndsBefore}
 use Rattle.bz_devices.specs.Device.{ends, NoneEnds, NoneAfterEnd}
@@ -29,7 +29,8 @@ pub record IsReadOn (max_reads : ℕ) (old new : Ahead) (pieces : List (List ℕ
 abbrev pub MayFollow : Ahead → List ℕ → Type 0
 MayFollow ahead rest = IsTrue ahead.ended → rest ≡ []
 
--- The first n bytes ahead are the next chunk, whatever follows, and it has at most so many bytes.
+-- The first n bytes ahead are the next chunk, whatever follows. It has at most so many bytes, and at most 8,192 are left
+-- after it.
 pub record IsNextChunk (max_statement : ℕ) (ahead : Ahead) (n : ℕ) : Type 0 where
   pub some : 0 < n
   pub within : n ≤ length ahead.bytes
@@ -37,7 +38,8 @@ pub record IsNextChunk (max_statement : ℕ) (ahead : Ahead) (n : ℕ) : Type 0 
   pub left : length (drop n ahead.bytes) ≤ 8192
   pub ends : (rest : List ℕ) → MayFollow ahead rest → EndsBefore (take n ahead.bytes) (drop n ahead.bytes ++ rest)
 
--- The first chunk of these bytes and the rest begins with a front of the bytes that is longer than it may be.
+-- The first chunk of these bytes and the rest begins with a front of the bytes, `seen` of them, that is longer than a chunk
+-- may be. `more` is what that chunk has after them, `others` are the chunks after it.
 pub record BeginsTooLong (max_statement : ℕ) (bytes rest : List ℕ) : Type 0 where
   pub seen : ℕ
   pub within : seen ≤ length bytes
@@ -48,23 +50,11 @@ pub record BeginsTooLong (max_statement : ℕ) (bytes rest : List ℕ) : Type 0 
 
 -- The next chunk is too long, whatever follows.
 abbrev pub IsTooLong : ℕ → Ahead → Type 0
-IsTooLong max_statement ahead = (rest : List ℕ) → MayFollow ahead rest → BeginsTooLong max_statement ahead.bytes rest
+IsTooLong most ahead = (rest : List ℕ) → MayFollow ahead rest → BeginsTooLong most ahead.bytes rest
 
 -- All bytes ahead but 8,192 at most belong to the next chunk: where more stand after the first n, it has more than n.
 abbrev pub IsFewAfter : Ahead → Type 0
 IsFewAfter ahead = (n : ℕ) → n + 8192 < length ahead.bytes → IsTooLong n ahead
-
--- A chunk of the file begins on this line, and a front of it that stands in these bytes, with which the file begins, is longer than it may be.
-pub record HasTooLong (max_statement line : ℕ) (bytes file : List ℕ) : Type 0 where
-  pub before : List (List ℕ)
-  pub seen : List ℕ
-  pub left : List ℕ
-  pub bytes_are : bytes ≡ concat before ++ (seen ++ left)
-  pub over : max_statement < length seen
-  pub more : List ℕ
-  pub others : List (List ℕ)
-  pub chunks_are : chunks file ≡ before ++ (seen ++ more) ∷ others
-  pub line_is : line ≡ line_at 1 (concat before)
 
 -- No front of these bytes is a chunk whatever follows.
 abbrev pub NoneIsChunk : List ℕ → Type 0

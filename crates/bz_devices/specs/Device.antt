@@ -1,4 +1,5 @@
--- Devices: what a source gave and what a sink took. One piece stands for one read; an empty one is the end of the input.
+-- Devices: what reads gave, whether they met the end, and counts of bytes and failures (this project's own rule). One piece
+-- stands for one read; an empty one is the end of the input.
 -- Begin with `NoneEnds` and `Rises`.
 use Rattle.std.specs.Prelude.{◌≡◌, ℕ, ◌+◌, ◌<◌, ◌≤◌, ◌-◌, ◌^◌, Bool, false, IsTrue, List, [], ◌∷◌, ◌++◌, Option, None, Some, ⊤}
 use Rattle.bz_token.specs.Common.{is_empty, map_or}

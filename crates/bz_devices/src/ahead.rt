@@ -38,7 +38,8 @@ pub struct Ahead {
     ended: bool,
 }
 
-// Half of what one read gives: so hardly more is held of an input than what one read gave of it, and few bytes are moved.
+// Half of what one read gives: so hardly more is held of an input than what one read gave of it, and few bytes are
+// moved.
 const MANY_TAKEN: usize = PIECE / 2;
 
 impl Model for Ahead {
@@ -111,8 +112,8 @@ impl Ahead {
         unsafe { from_utf8_unchecked(&self.bytes()[..self.text_len]) }
     }
 
-    /// How many bytes of the input are held, those that were taken too. Each field is named, so that none that is new goes
-    /// uncounted.
+    /// How many bytes of the input are held, those that were taken too. Each field is named, so that none that is new
+    /// goes uncounted.
     pub fn held(&self) -> usize
         ensures { length self.now.bytes ≤ result }
     {

@@ -1,6 +1,6 @@
 -- A chunk that a session takes: it is done, it has a fault, or the run ends at its failure.
 use Rattle.std.proofs.Common.{◌≡◌, ℕ, ◌<◌, ◌≤◌, Bool, true, false, List, [], ◌∷◌, ◌++◌, length, take, drop, take-append-drop, refl, sym, ◌∙◌, ap, subst, inr}
-use Rattle.std.specs.Prelude.{Option, None, Some, Result, Ok, Err, IfSome, IfNone, OnErr}
+use Rattle.std.specs.Prelude.{Option, None, Some, Result, Ok, Err, IfSome, IfNone}
 use Rattle.std.proofs.lemmas.Bool.{false≢true}
 use Rattle.std.proofs.lemmas.List.{length-take-le}
 use Rattle.bz_engine.specs.declared.run_fault.RunFault.{RunFault}
@@ -17,6 +17,7 @@ use Rattle.bz_engine.specs.Progress.{Progress}
 use Rattle.bz_engine.specs.private.Edits.{EditsChunk}
 use Rattle.bz_engine.specs.private.Finds.{AreFew}
 use Rattle.bz_engine.specs.SessionSteps.{IsCutShort}
+use Rattle.bz_engine.specs.Scripts.{AreCommands}
 use Rattle.bz_engine.specs.SessionValue.{SessionValue, run_in, HasDone, HasEnded}
 use Rattle.bz_engine.proofs.Sessions.{went_on, ended_fault, ended_failure}
 
@@ -42,26 +43,26 @@ chunk_done v e f mid before following edited max_reads most n pieces cs read tex
     (edits_as v mid n e.progress before following edited Done edits none is cs done.statements done.kept))
 
 pub chunk_faulty : (v e : SessionValue) (mid : Ahead) (before following : List ℕ) (edited : Edited) (fault : SyntaxFault) (max_reads n : ℕ) (pieces cs read : List (List ℕ)) (text : List ℕ)
-    → HasDone v pieces cs text → IsReadOn max_reads v.ahead mid read → IsNextChunk v.options.max_statement mid n → before ≡ []
+    → AreCommands v.passes → HasDone v pieces cs text → IsReadOn max_reads v.ahead mid read → IsNextChunk v.options.max_statement mid n → before ≡ []
     → (let after : SessionValue = record v { ahead = mid; progress = e.progress } in e ≡ after)
     → EditsNext v mid n e.progress before following edited → edited ≡ Faulty fault
     → HasEnded e (Syntax fault) (pieces ++ read) cs text
-chunk_faulty v e mid before following edited fault max_reads n pieces cs read text done on next none at edits is =
+chunk_faulty v e mid before following edited fault max_reads n pieces cs read text commands done on next none at edits is =
     let faulty = edits_as v mid n e.progress before following edited (Faulty fault) edits none is cs done.statements done.kept in
     let with_progress : Progress → SessionValue = λ p. record v { ahead = mid; progress = p } in
     subst (λ x. HasEnded x (Syntax fault) (pieces ++ read) cs text) (sym (at ∙ ap with_progress faulty.same))
-    (ended_fault v mid fault max_reads n pieces cs read text done on next faulty.fault_is)
+    (ended_fault v mid fault max_reads n pieces cs read text commands done on next faulty.fault_is)
 
 pub chunk_failed : (v e f : SessionValue) (mid : Ahead) (before following : List ℕ) (edited : Edited) (message : Option (List ℕ)) (max_reads n : ℕ) (pieces cs read : List (List ℕ)) (text : List ℕ)
-    → HasDone v pieces cs text → IsReadOn max_reads v.ahead mid read → IsNextChunk v.options.max_statement mid n → before ≡ []
+    → AreCommands v.passes → HasDone v pieces cs text → IsReadOn max_reads v.ahead mid read → IsNextChunk v.options.max_statement mid n → before ≡ []
     → (let after : SessionValue = record v { ahead = mid; progress = e.progress } in e ≡ after)
     → EditsNext v mid n e.progress before following edited → edited ≡ Failed message
     → (let told : SessionValue = record e { failure = message } in f ≡ told)
     → HasEnded f FirstFailure (pieces ++ read) cs text
-chunk_failed v e f mid before following edited message max_reads n pieces cs read text done on next none at edits is told =
+chunk_failed v e f mid before following edited message max_reads n pieces cs read text commands done on next none at edits is told =
     let tells : SessionValue → SessionValue = λ x. record x { failure = message } in
     subst (λ x. HasEnded x FirstFailure (pieces ++ read) cs text) (sym (told ∙ ap tells at))
-    (ended_failure v mid e.progress message following max_reads n pieces cs read text done on next
+    (ended_failure v mid e.progress message following max_reads n pieces cs read text commands done on next
     (edits_as v mid n e.progress before following edited (Failed message) edits none is cs done.statements done.kept))
 
 -- a chunk was done, and its text was not written to its end
@@ -83,10 +84,6 @@ write_cut v e mid before following edited max_reads most n k pieces cs read text
       },
       (drop k following, sym (take-append-drop k following)),
     )
-
-pub on_err : {T E P : Type 0} (r : Result T E) → P → OnErr r P
-on_err (Ok x) h = tt
-on_err (Err e) h = h
 
 pub some_of : {X : Type 0} (P : X → Type 0) (found : Option X) (x : X) → IfSome found P → found ≡ Some x → P x
 some_of P found x h is = subst (λ o. IfSome o P) is h

@@ -1,10 +1,7 @@
 -- What a command that looks at one argument alone makes of its lines, and so of the rule.
-use Rattle.std.proofs.Common.{◌≡◌, ℕ, ◌-◌, Bool, ◌&&◌, ◌||◌, not, true, false, List, [], ◌∷◌, ◌++◌, length, take, drop, refl, sym, ◌∙◌, ap, subst, arith, append_assoc, append-nil, if◌then◌else◌}
-use Rattle.std.proofs.Math.Seq.{take-append_seam}
+use Rattle.std.proofs.Common.{◌≡◌, ℕ, ◌-◌, Bool, ◌&&◌, ◌||◌, not, true, false, List, [], ◌∷◌, ◌++◌, length, take, refl, sym, ◌∙◌, ap, subst, arith, append_assoc, append-nil, if◌then◌else◌}
 use Rattle.std.proofs.lemmas.Bool.{false≢true}
-use Rattle.std.proofs.lemmas.List.{length-append}
 use Rattle.std.specs.Prelude.{codes, option_to_list, Option, None, Some, Result, Ok, Err, IfOk, IfSome}
-use Rattle.bz_tree.specs.Chunk.{IsStatementIn}
 use Rattle.bz_tree.specs.Tree.{Segment, Statement}
 use Rattle.bz_layout.specs.Gaps.{gap_text, lines_before}
 use Rattle.bz_layout.specs.Layout.{layout_text}
@@ -13,7 +10,6 @@ use Rattle.bz_engine.specs.Progress.{text_following}
 use Rattle.bz_label.specs.declared.arguments.Attributes.TheVariants.{Named}
 use Rattle.bz_label.specs.declared.arguments.Commented.TheVariants.{Attribute}
 use Rattle.bz_label.specs.declared.arguments.Moved.TheVariants.{Values}
-use Rattle.bz_label.specs.declared.arguments.Setting.TheVariants.{ToValues}
 use Rattle.bz_label.specs.Labels.{Package}
 use Rattle.bz_label.specs.Values.{quoted}
 use Rattle.bz_attribute.specs.declared.done.Done.{Done}
@@ -26,45 +22,25 @@ use Rattle.bz_rule.specs.Replace.{is_replaced, replaces_in}
 use Rattle.bz_attribute.specs.RowPlaces.{LooksAt}
 use Rattle.bz_attribute.specs.Rules.{Rule, first_named, is_named, is_text, rule_of, string_value, value}
 use Rattle.std.specs.List.{list_any}
-use Rattle.bz_rule.specs.Argument.{new_argument}
 use Rattle.bz_rule.specs.Comment.{comment_line}
 use Rattle.bz_canonical.specs.Commented.{TakesComment, commented}
 use Rattle.bz_canonical.specs.Added.{AddsToLines, LacksInLines}
 use Rattle.bz_canonical.specs.Removed.{RemovesFromLines}
 use Rattle.bz_canonical.specs.Replaced.{ReplacesInLines}
-use Rattle.bz_canonical.specs.Canonical.{AloneLines, AreReadAlone, Between, HasPlace, argument_lines, first_args, read_alone, rule_args, small_text}
-use Rattle.bz_canonical.proofs.SmallRules.{small_after, small_told}
-use Rattle.bz_rule.specs.declared.command.Action.TheVariants.{Add, Comment, Remove, Replace, Set, SetIfAbsent}
+use Rattle.bz_canonical.specs.Canonical.{AloneLines, AreReadAlone, Between, HasPlace, argument_lines, first_args, rule_args}
+use Rattle.bz_rule.specs.declared.command.Action.TheVariants.{Add, Comment, Remove, Replace}
 use Rattle.bz_rule.specs.Commands.{Command, after, args_after, args_done, done_of}
 use Rattle.bz_rule.specs.OneAttribute.{one_attribute}
 use Rattle.bz_rule.proofs.Lawfulness.{local}
-use Rattle.bz_engine.specs.declared.argument.EditedArgument.{EditedArgument}
 use Rattle.bz_engine.specs.declared.argument.EditedArgument.TheVariants.{Unchanged, Lines}
 use Rattle.bz_rule.specs.declared.forms.ListValue.{ListValue}
 use Rattle.bz_canonical.specs.declared.edited.EditedList.{EditedList}
 use Rattle.bz_canonical.specs.declared.edited.EditedList.TheVariants.{Unchanged as Unlisted, Written as Listed}
 use Rattle.bz_rule.specs.declared.forms.ReplacedValue.{ReplacedValue}
-use Rattle.bz_engine.specs.private.ArgumentEdits.{AddsArgument, AreLinesAfter, ChangesArgs, EditsLines, EditsList, EditsPlace, EditsSmallRule, list_argument}
-use Rattle.bz_rule.specs.Forms.{NewSetting, set_by}
+use Rattle.bz_engine.specs.private.ArgumentEdits.{AddsArgument, ChangesArgs, EditsLines, EditsList, EditsPlace, list_argument}
 use Rattle.bz_engine.specs.private.Found.{Makes, told_line}
 use Rattle.bz_engine.proofs.TextAnswers.{no_args, none_has, stays_by}
 use Rattle.bz_token.specs.Common.{is_empty, map_or}
-
--- what is set where none has the name
-set_alone : (command : Command) (new : NewSetting) → set_by command ≡ Some new → (home : Package)
-    → (args_done command home [] ≡ told_line true None) × (args_after command home [] ≡ new_argument new.attr new.words ∷ [])
-set_alone (Set (ToValues a ws)) new is home =
-    let same : record { attr = a; words = ws } ≡ new = cc in
-    (refl, ap (λ (n : NewSetting). new_argument n.attr n.words ∷ []) same)
-set_alone (SetIfAbsent a ws) new is home =
-    let same : record { attr = a; words = ws } ≡ new = cc in
-    (refl, ap (λ (n : NewSetting). new_argument n.attr n.words ∷ []) same)
-set_alone _ new is home = absurd cc
-
-pub adds_argument : (command : Command) (new : NewSetting) (lines : List ℕ) → set_by command ≡ Some new → lines ≡ argument_lines (new_argument new.attr new.words ∷ []) → AddsArgument command lines
-adds_argument command new lines is lines_are = λ home.
-    let made = set_alone command new is home in
-    record { told = made.0; some = ap is_empty made.1; lines_are = lines_are ∙ ap argument_lines (sym made.1) }
 
 -- what is added where none has the name
 pub adds_list : (attr value lines : List ℕ) → lines ≡ argument_lines (list_argument attr value ∷ []) → AddsArgument (Add attr (value ∷ [])) lines
@@ -160,49 +136,6 @@ pub adds_to_none : (depth : ℕ) (command : Command) (home : Package) (lines : L
     → (args : List Segment) → is_empty lines ≡ is_empty args → AreReadAlone depth lines args → ChangesArgs command home args new
 adds_to_none depth command home lines new none adds args empty reads = subst (λ xs. ChangesArgs command home xs new) (sym (no_args lines args empty none)) (adds home)
 
--- of the small rule, which was read of the lines
-not_nil : (xs : List Segment) (lines : List ℕ) → (lines ≡ [] → ⊥) → lines ≡ argument_lines xs → is_empty xs ≡ false
-not_nil [] lines some is = absurd (some is)
-not_nil (x ∷ xs) lines some is = refl
-
-edits_alone : (depth : ℕ) (command : Command) (attr : List ℕ) (home : Package) (lines text : List ℕ) → one_attribute command ≡ Some attr → text ≡ small_text lines → (first : ℕ) (t : Statement) → IsStatementIn first depth text t
-    → (told : Done) → told ≡ done_of command home (Some t) → (slot : Option Statement) → slot ≡ after command home (Some t)
-    → (edited : EditedArgument) → AreLinesAfter told slot edited → EditsLines depth command home lines edited
-edits_alone depth command attr home lines text one text_is first t read told told_is slot slot_is edited known = by edited known
-  where
-    read_lines : IsStatementIn first depth (small_text lines) t
-    read_lines = subst (λ bytes. IsStatementIn first depth bytes t) text_is read
-
-    done_is : (args : List Segment) → AreReadAlone depth lines args → args_done command home args ≡ told
-    done_is args reads = let law = local command home attr one in sym (told_is ∙ law.done t ∙ small_told (args_done command home) args t (reads first t read_lines))
-
-    by : (edited : EditedArgument) → AreLinesAfter told slot edited → EditsLines depth command home lines edited
-    by Unchanged known = λ args empty reads. done_is args reads ∙ known
-    by (Lines new) known = λ args empty reads.
-        let law = local command home attr one in
-        let new_is : new.now ≡ argument_lines (args_after command home args) =
-        known.2 (with_args (args_after command home) t) (args_after command home args) (slot_is ∙ law.slot t) (small_after (args_after command home) args t (reads first t read_lines)) in
-        record { told = done_is args reads ∙ known.0; some = not_nil (args_after command home args) new.now known.1 new_is; lines_are = new_is }
-
-pub edited_alone : {E : Type 0} (depth : ℕ) (command : Command) (attr : List ℕ) (home : Package) (text small : List ℕ) → one_attribute command ≡ Some attr → text ≡ small → (first : ℕ) (t : Statement)
-    → IsStatementIn first depth text t → (told : Done) → told ≡ done_of command home (Some t) → (slot : Option Statement) → slot ≡ after command home (Some t)
-    → (r : Result (Option EditedArgument) E) → IfOk r (λ edited. IfSome edited (AreLinesAfter told slot)) → IfOk r (λ edited. IfSome edited (EditsSmallRule depth command home small))
-edited_alone depth command attr home text small one same first t read told told_is slot slot_is (Ok (Some edited)) known =
-    λ lines is. edits_alone depth command attr home lines text one (same ∙ is) first t read told told_is slot slot_is edited known
-edited_alone depth command attr home text small one same first t read told told_is slot slot_is (Ok None) known = tt
-edited_alone depth command attr home text small one same first t read told told_is slot slot_is (Err e) known = known
-
--- of the small rule of these lines
-pub edited_of : {E : Type 0} (depth : ℕ) (command : Command) (home : Package) (lines small : List ℕ) → small ≡ small_text lines
-    → (r : Result (Option EditedArgument) E) → IfOk r (λ edited. IfSome edited (EditsSmallRule depth command home small)) → IfOk r (λ edited. IfSome edited (EditsLines depth command home lines))
-edited_of depth command home lines small is (Ok (Some edited)) known = known lines is
-edited_of depth command home lines small is (Ok None) known = tt
-edited_of depth command home lines small is (Err e) known = known
-
--- the lines in the text of the small rule
-pub lines_in : (text new : List ℕ) → text ≡ small_text new → take (length (drop 2 text) - 9) (drop 2 text) ≡ new
-lines_in text new is = ap (λ (t : List ℕ). take (length (drop 2 t) - 9) (drop 2 t)) is ∙ ap (λ n. take n (new ++ codes "\n    #\n)\n")) (omega (arith, length-append new (codes "\n    #\n)\n"))) ∙ take-append_seam new (codes "\n    #\n)\n")
-
 -- so of the rule
 told_first : (attr : List ℕ) (g : List Segment → Done) (args : List Segment) → LooksAt attr g → g (option_to_list (first_named attr args)) ≡ g args
 told_first attr g args looks = by (first_named attr args) refl
@@ -233,12 +166,6 @@ argument_changes depth command attr home s place lines one rule has changes =
       record { after_is = law.slot s; done = args_told command attr home s one rule ∙ made.told },
       has.takes (args_after command home) law.args made.some ∙ ap (λ (t : List ℕ). place.before ++ (t ++ place.after)) (sym made.lines_are),
     )
-
--- a list whose lines alone are in the buffer
-pub lines_alone : (depth : ℕ) (command : Command) (home : Package) (lines old new laid : List ℕ) → old ≡ [] → EditsList command (read_alone depth home lines) old new Listed → laid ≡ new
-    → (args : List Segment) → is_empty lines ≡ is_empty args → AreReadAlone depth lines args → ChangesArgs command home args laid
-lines_alone depth command home lines old new laid none edits is args same reads =
-    subst (ChangesArgs command home args) (sym (is ∙ edits.1 ∙ ap (λ (t : List ℕ). t ++ edits.0) none)) (edits.2 args reads)
 
 -- a list whose lines stand in the text of the rule
 pub list_stays : (depth : ℕ) (command : Command) (attr : List ℕ) (home : Package) (s : Statement) (place : Between) (old new : List ℕ) → one_attribute command ≡ Some attr → (r : Rule) × (rule_of s.nodes ≡ Some r) → HasPlace depth attr s place

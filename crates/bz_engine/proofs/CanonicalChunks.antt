@@ -5,27 +5,31 @@ use Rattle.std.proofs.lemmas.Bool.{false≢true}
 use Rattle.std.proofs.lemmas.List.{length-append}
 use Rattle.std.proofs.lemmas.List.Sums.{count_by-le-length}
 use Rattle.std.proofs.lemmas.Slice.Eq.{bytes_eq-Decides}
-use Rattle.std.specs.Prelude.{Option, None, Some, IfSome, IfNone, is_some, option_map, ◌==◌}
-use Rattle.std.specs.Str.{IsUtf8}
+use Rattle.std.specs.Prelude.{Option, None, Some, IfSome, IfNone, IsTrue, option_map, ◌==◌}
 use Rattle.bz_token.specs.Places.{line_at}
 use Rattle.bz_tree.specs.Chunk.{IsStatementIn}
 use Rattle.bz_tree.specs.Tree.{Statement}
 use Rattle.bz_layout_laws.proofs.ChunkLaws.{chunk_class}
 use Rattle.bz_label.specs.Labels.{Name, Pkg, All, Kind as OfKind, Line}
 use Rattle.bz_attribute.specs.Rules.{Rule, is_text, rule_of}
-use Rattle.bz_canonical.specs.Canonical.{HasName, IsCanonical, between, rule_name}
-use Rattle.bz_devices.specs.Ahead.{Ahead, IsFewAfter}
+use Rattle.bz_canonical.specs.Canonical.{HasName, HasPlace, IsCanonical, IsReadBack, between, rule_name}
+use Rattle.bz_canonical.specs.Spans.{AreSpansOf, HasSpans}
+use Rattle.bz_canonical.specs.declared.chunk.CanonicalChunk.{CanonicalChunk}
+use Rattle.bz_canonical.specs.declared.place.ArgumentPlace.{ArgumentPlace}
+use Rattle.bz_canonical.specs.declared.spans.ArgumentSpan.{ArgumentSpan}
+use Rattle.bz_devices.specs.Ahead.{Ahead, IsFewAfter, IsNextChunk}
 use Rattle.bz_passes.specs.declared.index.Key.TheVariants.{Name as Named, NoName}
 use Rattle.bz_passes.specs.Exchange.{Fits}
-use Rattle.bz_engine.specs.Outcome.{Run}
+use Rattle.bz_engine.specs.Outcome.{Run, Script}
 use Rattle.bz_engine.specs.Progress.{Progress}
 use Rattle.bz_engine.specs.declared.canonical.Found.{Found}
-use Rattle.bz_engine.specs.declared.edit.Edited.TheVariants.{Done}
-use Rattle.bz_engine.specs.declared.edit.Scripted.TheVariants.{Done as Laid}
-use Rattle.bz_engine.specs.private.Edits.{DoesNothing, EditsChunk, EditsWhole, IsEdited, IsLaidOut}
-use Rattle.bz_engine.specs.private.NextChunks.{IsFirstEdited, IsKnownEdited, done_chunk}
+use Rattle.bz_engine.specs.declared.next_chunk.NextChunk.{NextChunk}
+use Rattle.bz_engine.specs.private.Edits.{DoesNothing, EditsChunk, EditsWhole, IsEdited, IsScripted}
+use Rattle.bz_engine.specs.private.Found.{HasItsSpans, IsFoundOn}
+use Rattle.bz_engine.specs.private.NextChunks.{IsFirstEdited, IsKnownEdited}
 use Rattle.bz_engine.specs.private.Rows.{HasKey}
-use Rattle.bz_engine.proofs.ChunkEdits.{line_passed, scripted_edited}
+use Rattle.bz_engine.specs.private.Sealed.{asked_names}
+use Rattle.bz_engine.proofs.ChunkEdits.{scripted_edited}
 use Rattle.bz_engine.proofs.FirstChunks.{IsTakenOf, first_is_next, chunk_is}
 use Rattle.bz_attribute.specs.Marks.{marks_rule}
 use Rattle.bz_token.specs.Common.{map_or}
@@ -33,7 +37,7 @@ use Rattle.bz_token.specs.Common.{map_or}
 pub same_bytes : (xs ys : List ℕ) → bytes_eq xs ys ≡ true → xs ≡ ys
 same_bytes xs ys h = search (rules, bytes_eq-Decides)
 
-bytes_same : (xs : List ℕ) → bytes_eq xs xs ≡ true
+pub bytes_same : (xs : List ℕ) → bytes_eq xs xs ≡ true
 bytes_same xs = search (rules, bytes_eq-Decides)
 
 -- a target that asks for a name marks what has this name
@@ -69,32 +73,58 @@ front_taken chunk rest text is = sym (ap (take (length chunk)) is ∙ take-appen
 few_lines : (line : ℕ) (chunk : List ℕ) → line_at line chunk ≤ line + length chunk
 few_lines line chunk = omega (arith, count_by-le-length (λ b. b == 10) chunk)
 
--- the statement that is read of the chunk, laid out
-known_laid : (run : Run) (found : Found) (text : List ℕ) (old new : Progress) (before after : List ℕ) (len : ℕ)
-    → (c : IsCanonical run.max_depth found.attr.now found.chunk.class (option_map (λ name. name.now) found.chunk.name) (option_map (λ kind. kind.now) found.chunk.kind) (option_map between found.chunk.place) found.chunk.chunk.now found.chunk.written.now text)
-    → (known : IsKnownEdited run found old new before after len) → IsLaidOut run (c.read old.line).statement old known.mid before after
-known_laid run found text old new before after len c known =
-    let read = c.read old.line in
+-- the statement that is read of the chunk
+pub found_read : (line depth : ℕ) (found : Found) (read : IsReadBack line depth found.chunk.class (option_map (λ name. name.now) found.chunk.name) (option_map (λ kind. kind.now) found.chunk.kind) found.chunk.chunk.now found.chunk.written.now)
+    → IfSome (option_map between found.place) (HasPlace depth found.attr.now read.statement) → IsFoundOn depth line found read.statement
+found_read line depth found read has =
     let s = read.statement in
-    known.laid s (record { class = chunk_class old.line found.chunk.chunk.now read.read.tokens s read.read.reads.chunk; class_is = read.class_is; named = read.named; nameless = read.nameless; written = read.written; has = read.has })
+    record {
+      is = record { class = chunk_class line found.chunk.chunk.now read.read.tokens s read.read.reads.chunk; class_is = read.class_is; named = read.named; nameless = read.nameless; written = read.written; has = has };
+      read = read.read;
+    }
+
+-- the chunk with the place of an argument
+pub spans_found : (depth : ℕ) (passes : Script) (chunk : CanonicalChunk) (found : Found) (text : List ℕ) (spans : List ArgumentSpan) → found.chunk ≡ chunk → found.spans.now ≡ spans
+    → IfSome found.place (λ place. IsTrue chunk.noted × ((first depth : ℕ) (s : Statement) → HasSpans first depth (asked_names passes) s chunk.chunk.now chunk.written.now spans → HasPlace depth found.attr.now s (between place)))
+    → IsCanonical depth chunk.class (option_map (λ name. name.now) chunk.name) (option_map (λ kind. kind.now) chunk.kind) chunk.chunk.now chunk.written.now text
+    → (IsTrue chunk.noted → AreSpansOf depth (asked_names passes) chunk.chunk.now chunk.written.now spans) → HasItsSpans depth passes found
+spans_found depth passes chunk found text spans chunk_is spans_are placed c noted = record {
+  read = λ first.
+      let read = subst (λ (k : CanonicalChunk). IsReadBack first depth k.class (option_map (λ name. name.now) k.name) (option_map (λ kind. kind.now) k.kind) k.chunk.now k.written.now) (sym chunk_is) (c.read first) in
+      (read.statement, found_read first depth found read (by found.place placed read.statement (subst (λ (k : CanonicalChunk). IsStatementIn first depth k.chunk.now read.statement) chunk_is read.read)));
+  spans = subst (λ (k : CanonicalChunk). IsTrue k.noted → AreSpansOf depth (asked_names passes) k.chunk.now k.written.now found.spans.now) (sym chunk_is)
+      (subst (λ (ss : List ArgumentSpan). IsTrue chunk.noted → AreSpansOf depth (asked_names passes) chunk.chunk.now chunk.written.now ss) (sym spans_are) noted);
+}
+  where
+    by : (place : Option ArgumentPlace) → IfSome place (λ place. IsTrue chunk.noted × ((first depth : ℕ) (s : Statement) → HasSpans first depth (asked_names passes) s chunk.chunk.now chunk.written.now spans → HasPlace depth found.attr.now s (between place)))
+        → {first : ℕ} (s : Statement) → IsStatementIn first depth chunk.chunk.now s → IfSome (option_map between place) (HasPlace depth found.attr.now s)
+    by None placed s read = tt
+    by (Some place) placed {first = first} s read = placed.1 first depth s (noted placed.0 first s read)
 
 all_taken : (chunk rest text : List ℕ) → text ≡ chunk ++ rest → length chunk ≡ length text → chunk ≡ text
 all_taken chunk [] text is size = sym (is ∙ append-nil chunk)
 all_taken chunk (b ∷ bs) text is size = absurd (omega (arith, ap length is, length-append chunk (b ∷ bs), size))
 
+-- what the script made of the statement is what it made of its chunk
+known_answer : (run : Run) (found : Found) (old new : Progress) (before after : List ℕ) (next : NextChunk)
+    → HasItsSpans run.max_depth run.passes found → IsKnownEdited run found old new before after next → EditsChunk run found.chunk.chunk.now old new before after next.edited
+known_answer run found old new before after next its known cs statements kept =
+    let read = its.read old.line in
+    subst (IsEdited run cs statements found.chunk.chunk.now old new before after) (sym known.edited_is)
+    (scripted_edited run cs statements found.chunk.chunk.now read.0 old known.mid new before after known.scripted kept (known.utf8, read.1.read) (known.is read.0 read.1) known.passed)
+
+known_line : (run : Run) (found : Found) (old new : Progress) (before after : List ℕ) (next : NextChunk) → IsKnownEdited run found old new before after next → new.line ≡ line_at old.line found.chunk.chunk.now
+known_line run found old new before after next known = ap (λ (p : Progress). p.line) known.passed ∙ ap (λ n. line_at n found.chunk.chunk.now) known.same_line
+
 -- the chunk is the whole text
-whole_edited : (run : Run) (found : Found) (text : List ℕ) (old new : Progress) (before after : List ℕ) (len : ℕ) → length found.chunk.chunk.now ≡ length text
-    → IsCanonical run.max_depth found.attr.now found.chunk.class (option_map (λ name. name.now) found.chunk.name) (option_map (λ kind. kind.now) found.chunk.kind) (option_map between found.chunk.place) found.chunk.chunk.now found.chunk.written.now text
-    → IsKnownEdited run found old new before after len → EditsChunk run text old new before after Done × (new.line ≤ old.line + length text)
-whole_edited run found text old new before after len size c known =
+whole_edited : (run : Run) (found : Found) (text : List ℕ) (old new : Progress) (before after : List ℕ) (next : NextChunk) → length found.chunk.chunk.now ≡ length text
+    → IsCanonical run.max_depth found.chunk.class (option_map (λ name. name.now) found.chunk.name) (option_map (λ kind. kind.now) found.chunk.kind) found.chunk.chunk.now found.chunk.written.now text → HasItsSpans run.max_depth run.passes found
+    → IsKnownEdited run found old new before after next → EditsChunk run text old new before after next.edited × (new.line ≤ old.line + length text)
+whole_edited run found text old new before after next size c its known =
     let chunk : List ℕ = found.chunk.chunk.now in
     let whole : chunk ≡ text = all_taken chunk c.rest text c.front size in
-    let read = c.read old.line in
-    let s = read.statement in
-    let done : IsLaidOut run s old known.mid before after = known_laid run found text old new before after len c known in
-    let at : new.line ≡ line_at old.line chunk = ap (λ (p : Progress). p.line) known.passed ∙ ap (λ n. line_at n chunk) done.line in (
-      λ cs statements kept. scripted_edited run cs statements text s old known.mid new before after Laid kept
-          (subst IsUtf8 whole known.utf8, subst (λ bytes. IsStatementIn old.line run.max_depth bytes s) whole read.read) done (known.passed ∙ ap (λ bytes. line_passed bytes known.mid) whole),
+    let at : new.line ≡ line_at old.line chunk = known_line run found old new before after next known in (
+      subst (λ bytes. EditsChunk run bytes old new before after next.edited) whole (known_answer run found old new before after next its known),
       omega (arith, at, few_lines old.line chunk, size),
     )
 
@@ -102,50 +132,43 @@ no_line : (n old new : ℕ) → new ≡ old → new ≤ old + n
 no_line n old new is = omega arith
 
 -- where a buffer is taken before it, and given back after it
-pub whole_known : (run : Run) (found : Found) (text : List ℕ) (start old mid new : Progress) (before after : List ℕ) (next : Option ℕ) → length found.chunk.chunk.now ≡ length text
-    → IsCanonical run.max_depth found.attr.now found.chunk.class (option_map (λ name. name.now) found.chunk.name) (option_map (λ kind. kind.now) found.chunk.kind) (option_map between found.chunk.place) found.chunk.chunk.now found.chunk.written.now text
+pub whole_known : (run : Run) (found : Found) (text : List ℕ) (start old mid new : Progress) (before after : List ℕ) (next : Option NextChunk) → length found.chunk.chunk.now ≡ length text
+    → IsCanonical run.max_depth found.chunk.class (option_map (λ name. name.now) found.chunk.name) (option_map (λ kind. kind.now) found.chunk.kind) found.chunk.chunk.now found.chunk.written.now text → HasItsSpans run.max_depth run.passes found
     → old ≡ start → new ≡ mid → Fits mid.kept run.passes → IfSome next (IsKnownEdited run found old mid before after) → IfNone next (DoesNothing old mid before after)
-    → EditsWhole run text start new before after (is_some next)
-whole_known run found text start old mid new before after next size c first last fits known none =
-    subst (λ (p : Progress). EditsWhole run text p new before after (is_some next)) first
-    (subst (λ (p : Progress). EditsWhole run text old p before after (is_some next)) (sym last) (by next known none))
+    → EditsWhole run text start new before after (option_map (λ next. next.edited) next)
+whole_known run found text start old mid new before after next size c its first last fits known none =
+    subst (λ (p : Progress). EditsWhole run text p new before after (option_map (λ next. next.edited) next)) first
+    (subst (λ (p : Progress). EditsWhole run text old p before after (option_map (λ next. next.edited) next)) (sym last) (by next known none))
   where
-    by : (next : Option ℕ) → IfSome next (IsKnownEdited run found old mid before after) → IfNone next (DoesNothing old mid before after) → EditsWhole run text old mid before after (is_some next)
-    by None known none = record {
-      fits = fits;
-      lines = no_line (length text) old.line mid.line (ap (λ (p : Progress). p.line) none.0);
-      edited = λ done. absurd (false≢true done);
-      nothing = λ _. none;
-    }
+    by : (next : Option NextChunk) → IfSome next (IsKnownEdited run found old mid before after) → IfNone next (DoesNothing old mid before after)
+        → EditsWhole run text old mid before after (option_map (λ next. next.edited) next)
+    by None known none = record { fits = fits; lines = no_line (length text) old.line mid.line (ap (λ (p : Progress). p.line) none.0); edited = tt; nothing = none }
     by (Some next) known none =
-        let whole = whole_edited run found text old mid before after next size c known in
-        record { fits = fits; lines = whole.1; edited = λ _. whole.0; nothing = λ other. absurd (false≢true (sym other)) }
+        let whole = whole_edited run found text old mid before after next size c its known in
+        record { fits = fits; lines = whole.1; edited = whole.0; nothing = tt }
 
-canonical_edited : (run : Run) (most : ℕ) (ahead : Ahead) (found : Found) (text : List ℕ) (old new : Progress) (before after : List ℕ) (len : ℕ)
+canonical_edited : (run : Run) (most : ℕ) (ahead : Ahead) (found : Found) (text : List ℕ) (old new : Progress) (before after : List ℕ) (next : NextChunk)
     → IsFewAfter ahead → IsTakenOf text ahead.bytes → length found.chunk.chunk.now ≤ most
-    → IsCanonical run.max_depth found.attr.now found.chunk.class (option_map (λ name. name.now) found.chunk.name) (option_map (λ kind. kind.now) found.chunk.kind) (option_map between found.chunk.place) found.chunk.chunk.now found.chunk.written.now text
-    → IsKnownEdited run found old new before after len → IsFirstEdited run most ahead old new before after (done_chunk len)
-canonical_edited run most ahead found text old new before after len few outer size c known =
+    → IsCanonical run.max_depth found.chunk.class (option_map (λ name. name.now) found.chunk.name) (option_map (λ kind. kind.now) found.chunk.kind) found.chunk.chunk.now found.chunk.written.now text → HasItsSpans run.max_depth run.passes found
+    → IsKnownEdited run found old new before after next → IsFirstEdited run most ahead old new before after next
+canonical_edited run most ahead found text old new before after next few outer size c its known =
     let chunk : List ℕ = found.chunk.chunk.now in
-    let mid : Progress = known.mid in
     let within : length chunk ≤ length text = front_size chunk c.rest text c.front in
     let front : chunk ≡ take (length chunk) text = front_taken chunk c.rest text c.front in
-    let read = c.read old.line in
-    let s = read.statement in
-    let laid : IsLaidOut run s old mid before after = known_laid run found text old new before after len c known in
-    subst (λ n. IsFirstEdited run most ahead old new before after (done_chunk n)) (sym known.len_is) (record {
-      chunk = first_is_next most ahead chunk text few outer c.some within front size c.ends;
-      lines = subst (λ n. n ≤ old.line + length chunk) (sym (ap (λ (p : Progress). p.line) known.passed ∙ ap (λ n. line_at n chunk) laid.line)) (few_lines old.line chunk);
-      edited = λ cs statements kept. subst (λ bytes. IsEdited run cs statements bytes old new before after Done) (chunk_is chunk text ahead.bytes outer within front)
-          (scripted_edited run cs statements chunk s old mid new before after Laid kept (known.utf8, read.read) laid known.passed);
-    })
+    let edited = subst (λ bytes. EditsChunk run bytes old new before after next.edited) (chunk_is chunk text ahead.bytes outer within front) (known_answer run found old new before after next its known) in
+    record {
+      chunk = subst (IsNextChunk most ahead) (sym known.len_is) (first_is_next most ahead chunk text few outer c.some within front size c.ends);
+      lines = subst (λ n. new.line ≤ old.line + n) (sym known.len_is)
+          (subst (λ n. n ≤ old.line + length chunk) (sym (known_line run found old new before after next known)) (few_lines old.line chunk));
+      edited = subst (λ n. EditsChunk run (take n ahead.bytes) old new before after next.edited) (sym known.len_is) edited;
+    }
 
 -- where a buffer is taken before it, and given back after it
-pub known_edited : (run : Run) (most : ℕ) (ahead : Ahead) (found : Found) (text : List ℕ) (start old mid new : Progress) (before after : List ℕ) (next : Option ℕ)
+pub known_edited : (run : Run) (most : ℕ) (ahead : Ahead) (found : Found) (text : List ℕ) (start old mid new : Progress) (before after : List ℕ) (next : Option NextChunk)
     → IsFewAfter ahead → IsTakenOf text ahead.bytes → length found.chunk.chunk.now ≤ most
-    → IsCanonical run.max_depth found.attr.now found.chunk.class (option_map (λ name. name.now) found.chunk.name) (option_map (λ kind. kind.now) found.chunk.kind) (option_map between found.chunk.place) found.chunk.chunk.now found.chunk.written.now text
-    → old ≡ start → new ≡ mid → IfSome next (IsKnownEdited run found old mid before after) → IfSome next (λ len. IsFirstEdited run most ahead start new before after (done_chunk len))
-known_edited run most ahead found text start old mid new before after None few outer size c first last known = tt
-known_edited run most ahead found text start old mid new before after (Some len) few outer size c first last known =
-    subst (λ (p : Progress). IsFirstEdited run most ahead p new before after (done_chunk len)) first
-    (subst (λ (p : Progress). IsFirstEdited run most ahead old p before after (done_chunk len)) (sym last) (canonical_edited run most ahead found text old mid before after len few outer size c known))
+    → IsCanonical run.max_depth found.chunk.class (option_map (λ name. name.now) found.chunk.name) (option_map (λ kind. kind.now) found.chunk.kind) found.chunk.chunk.now found.chunk.written.now text → HasItsSpans run.max_depth run.passes found
+    → old ≡ start → new ≡ mid → IfSome next (IsKnownEdited run found old mid before after) → IfSome next (IsFirstEdited run most ahead start new before after)
+known_edited run most ahead found text start old mid new before after None few outer size c its first last known = tt
+known_edited run most ahead found text start old mid new before after (Some next) few outer size c its first last known =
+    subst (λ (p : Progress). IsFirstEdited run most ahead p new before after next) first
+    (subst (λ (p : Progress). IsFirstEdited run most ahead old p before after next) (sym last) (canonical_edited run most ahead found text old mid before after next few outer size c its known))

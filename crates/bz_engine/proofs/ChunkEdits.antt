@@ -94,7 +94,3 @@ scripted_edited run cs ss chunk s old mid new before after (scripts.Failed messa
   changed = ap (λ p. p.changed) is ∙ ended.changed;
   nothing = ended.nothing;
 }
-
--- the line after the chunk
-abbrev pub line_passed : List ℕ → Progress → Progress
-line_passed chunk p = record p { line = line_at p.line chunk }

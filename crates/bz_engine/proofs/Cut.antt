@@ -1,12 +1,11 @@
 -- What a run has written where a fault stops it.
-use Rattle.std.proofs.Common.{◌≡◌, ◌≢◌, ◌⊎◌, ℕ, ◌<◌, ◌≤◌, Bool, List, [], ◌∷◌, ◌++◌, length, take, drop, take-append-drop, refl, sym, ◌∙◌, ap, subst, append_assoc, append-nil, inl, inr}
+use Rattle.std.proofs.Common.{◌≡◌, ◌≢◌, ◌⊎◌, ℕ, ◌≤◌, Bool, List, [], ◌∷◌, ◌++◌, length, refl, sym, ◌∙◌, ap, subst, append_assoc, append-nil, inl, inr}
 use Rattle.std.specs.Prelude.{IsTrue}
 use Rattle.std.specs.List.{concat}
-use Rattle.std.proofs.lemmas.List.{length-take-le}
 use Rattle.bz_token.specs.Chunks.{chunks}
 use Rattle.bz_label.specs.Labels.{Package}
 use Rattle.bz_engine.specs.declared.options.Options.{Options}
-use Rattle.bz_devices.specs.Ahead.{Ahead, IsReadOn, IsTooLong, HasTooLong}
+use Rattle.bz_devices.specs.Ahead.{Ahead, IsReadOn}
 use Rattle.bz_engine.specs.EveryFile.{ForEveryFile}
 use Rattle.bz_engine.specs.Outcome.{Script, Run, run_with, Told, IsOutcome, IsFrontOf, text_after}
 use Rattle.bz_engine.specs.declared.report.End.{End}
@@ -14,8 +13,9 @@ use Rattle.bz_engine.specs.declared.run_fault.RunFault.{RunFault}
 use Rattle.bz_engine.specs.declared.run_fault.RunFault.TheVariants.{WriteFailed}
 use Rattle.bz_engine.specs.SessionValue.{SessionValue, run_in, IsSameRun, HasDone}
 use Rattle.bz_engine.specs.SessionSteps.{IsCutShort, IsLeftByFault}
-use Rattle.bz_devices.proofs.MoreReads.{joined_more, open_more}
+use Rattle.bz_devices.proofs.MoreReads.{open_more}
 use Rattle.bz_engine.proofs.OneOutcome.{front_of_outcome, one_outcome}
+use Rattle.bz_engine.proofs.Failures.{calm_of}
 use Rattle.bz_engine.proofs.Runs.{run_is, reads_for}
 use Rattle.bz_tree.specs.Tree.{Statement}
 use Rattle.bz_devices.specs.Device.{ends}
@@ -38,7 +38,7 @@ chunks_front : (v : SessionValue) (pieces cs others : List (List ℕ)) (text fil
 chunks_front v pieces cs others text file whole told done all outcome =
     subst (λ t. IsFrontOf t whole) (sym done.text_is)
     (front_of_outcome (run_in v) file done.statements whole told
-    (record { begins = record { front = cs; after = others; chunks_are = all; read = done.kept.read }; calm = λ h. sym done.kept.left.failed ∙ done.calm h }) outcome)
+    (record { begins = record { front = cs; after = others; chunks_are = all; read = done.kept.read }; calm = calm_of v pieces cs text done }) outcome)
 
 done_begins : (v : SessionValue) (pieces cs : List (List ℕ)) (text : List ℕ) → HasDone v pieces cs text → BeginsAll (run_in v) pieces text
 done_begins v pieces cs text done = record {
@@ -161,7 +161,7 @@ all_done v pieces cs text done = record {
   bytes_are = done.bytes;
   chunks_are = λ rest last. done.first rest (λ h. last (subst IsTrue done.ended h));
   read = done.kept.read;
-  calm = λ h. sym done.kept.left.failed ∙ done.calm h;
+  calm = calm_of v pieces cs text done;
 }
 
 -- what a step that answered a fault has left of what the next chunk adds
@@ -239,24 +239,3 @@ ended_begins run pieces text told ended = record {
 -- nothing was read or written
 pub nothing_begins : (run : Run) → BeginsAll run [] []
 nothing_begins run = record { each = λ rest over whole told outcome. (whole, refl) }
-
--- The chunk that is too long stands in the file after those that are done.
-pub too_long_in : (v w : SessionValue) (max_statement most line : ℕ) (pieces cs read : List (List ℕ)) (text : List ℕ) → HasDone v pieces cs text → IsReadOn v.options.max_reads v.ahead w.ahead read
-    → max_statement ≡ most → line ≡ v.progress.line → IsTooLong max_statement w.ahead → ForEveryFile (pieces ++ read) (HasTooLong most line (concat (pieces ++ read)))
-too_long_in v w max_statement most line pieces cs read text done on same at long = record {
-  each = λ rest last.
-      let over : IsTrue w.ahead.ended → rest ≡ [] = λ h. last (subst IsTrue (ended_on v w.ahead v.options.max_reads pieces cs read text done on) h) in
-      let begins = long rest over in
-      record {
-        before = cs;
-        seen = take begins.seen w.ahead.bytes;
-        left = drop begins.seen w.ahead.bytes;
-        bytes_are = joined_more pieces read ∙ ap (λ l. l ++ concat read) done.bytes ∙ append_assoc (concat cs) v.ahead.bytes (concat read)
-            ∙ ap (λ l. concat cs ++ l) (sym on.bytes ∙ sym (take-append-drop begins.seen w.ahead.bytes));
-        over = subst (λ n. n < length (take begins.seen w.ahead.bytes)) same (subst (λ n. max_statement < n) (sym (length-take-le begins.seen w.ahead.bytes begins.within)) begins.over);
-        more = begins.more;
-        others = begins.others;
-        chunks_are = read_on v w.ahead v.options.max_reads pieces cs read text done on rest over ∙ ap (λ l. cs ++ l) begins.chunks_are;
-        line_is = at ∙ done.kept.line;
-      };
-}

@@ -2,8 +2,8 @@
 use Rattle.std.proofs.Common.{◌≡◌, ℕ, Bool, true, false, List, [], ◌∷◌, refl, nat_eq}
 use Rattle.std.specs.Prelude.{Option, None, Some, not}
 use Rattle.bz_devices.specs.Device.{ends}
-use Rattle.bz_passes.specs.Passes.{Slot, Meaning, Pass, slots_after, log_of, some_execution, some_missing}
-use Rattle.bz_passes.specs.Exchange.{kept_of, told}
+use Rattle.bz_passes.specs.Passes.{Slot, Meaning, Pass, executions_of, said, slots_after, log_of}
+use Rattle.bz_passes.specs.Exchange.{kept_of, told, some_execution, some_missing}
 use Rattle.std.specs.List.{concat}
 
 reads_join : concat ((1 ∷ 2 ∷ []) ∷ (3 ∷ []) ∷ [] ∷ []) ≡ 1 ∷ 2 ∷ 3 ∷ []
@@ -47,6 +47,14 @@ renaming = pass 1 (Some 2 ∷ None ∷ []) ∷ pass 2 (None ∷ []) ∷ pass 1 (
 
 renamed : slots_after names renaming (Some 1 ∷ []) ≡ Some 2 ∷ []
 renamed = refl
+
+-- what is executed, in order: a command and what it finds
+renamed_executions : executions_of names renaming (Some 1 ∷ [])
+    ≡ record { command = Some 2; found = Some 1 } ∷ record { command = None; found = Some 2 } ∷ record { command = None; found = Some 2 } ∷ []
+renamed_executions = refl
+
+renamed_said : said names (executions_of names renaming (Some 1 ∷ [])) ≡ 2 ∷ 2 ∷ []
+renamed_said = refl
 
 renamed_log : log_of names renaming (Some 1 ∷ []) ≡ 2 ∷ 2 ∷ 0 ∷ []
 renamed_log = refl

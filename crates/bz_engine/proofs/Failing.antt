@@ -1,5 +1,5 @@
 -- Where an execution fails, and failures end the run.
-use Rattle.std.proofs.Common.{◌≡◌, ℕ, Bool, true, false, ◌||◌, List, [], ◌∷◌, ◌++◌, refl, sym, ◌∙◌, ap, take}
+use Rattle.std.proofs.Common.{◌≡◌, ℕ, Bool, true, false, ◌||◌, not, List, [], ◌∷◌, ◌++◌, refl, sym, ◌∙◌, ap, take}
 use Rattle.bz_passes.specs.declared.entry.Entry.TheVariants.{Line}
 use Rattle.std.specs.Prelude.{Option, None, Some, option_to_list, map}
 use Rattle.std.specs.List.{flat_map}
@@ -19,24 +19,19 @@ use Rattle.bz_passes.specs.Entries.{failure_text}
 use Rattle.bz_engine.specs.Progress.{Progress}
 use Rattle.bz_engine.specs.private.Edits.{IsEnded}
 use Rattle.bz_passes.proofs.Failures.{failures_alone}
+use Rattle.bz_engine.proofs.Failures.{says_failure}
 use Rattle.bz_engine.proofs.OneSlot.{fails_alone, said_alone}
+use Rattle.bz_token.specs.Common.{is_empty}
 use Rattle.bz_attribute.specs.Texts.{shown_text}
 use Rattle.bz_token.specs.Common.{map_or}
 
--- a note that is no failure tells of none
-no_failure : (rule : List ℕ) (line : Option (List ℕ)) (note : Option Note) → fails note ≡ false → flat_map failure_text (map Line (option_to_list line) ++ note_told rule note) ≡ []
-no_failure rule None None h = refl
-no_failure rule (Some line) None h = refl
-no_failure rule None (Some (Missing field)) h = refl
-no_failure rule (Some line) (Some (Missing field)) h = refl
-no_failure rule line (Some (NoAttribute attr)) h = absurd (false≢true (sym h))
-no_failure rule line (Some (AttributeExists attr)) h = absurd (false≢true (sym h))
-no_failure rule line (Some (NotAList attr)) h = absurd (false≢true (sym h))
-no_failure rule line (Some (NoValue attr value)) h = absurd (false≢true (sym h))
+nothing_in : (texts : List (List ℕ)) → not (is_empty texts) ≡ false → texts ≡ []
+nothing_in [] h = refl
+nothing_in (x ∷ texts) h = absurd cc
 
 -- an execution that does not fail tells of no failure
 quiet : (home : Package) (c : Command) (slot : Slot Statement) → fails_on home c slot ≡ false → flat_map failure_text ((meaning home).says c slot) ≡ []
-quiet home c slot h = no_failure (map_or [] (shown_text home) slot) (done_of c home slot).line (done_of c home slot).note h
+quiet home c slot h = nothing_in (flat_map failure_text ((meaning home).says c slot)) (says_failure home c slot ∙ h)
 
 or_then : (a b f : Bool) → f ≡ (a || b) → f ≡ true → a ≡ false → b ≡ true
 or_then true b f is h none = absurd (false≢true (sym none))

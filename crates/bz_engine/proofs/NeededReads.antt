@@ -8,6 +8,7 @@ use Rattle.bz_label.specs.Labels.{Package}
 use Rattle.bz_devices.specs.Device.{ends, NoneEnds, NoneAfterEnd}
 use Rattle.bz_devices.specs.Ahead.{Ahead, IsReadOn, IsUndecided}
 use Rattle.bz_devices.proofs.MoreReads.{joined_more, none_ends_more, file_more}
+use Rattle.bz_engine.proofs.Failures.{calm_of}
 use Rattle.bz_engine.specs.declared.options.Options.{Options}
 use Rattle.bz_engine.specs.Outcome.{Script, Run}
 use Rattle.bz_engine.specs.NeededReads.{AreDone, IsOneNeeded, AreNeededAfter, AreReads}
@@ -57,7 +58,7 @@ done_more v pieces cs more text done stays = record {
       ∙ done.first (concat more ++ rest) over
       ∙ ap (λ l. cs ++ chunks l) (sym (append_assoc v.ahead.bytes (concat more) rest));
   read = done.kept.read;
-  calm = λ h. sym done.kept.left.failed ∙ done.calm h;
+  calm = calm_of v pieces cs text done;
 }
 
 -- a read after what was done and more reads

@@ -14,10 +14,11 @@ use Rattle.bz_token.specs.Faults.{IsFault}
 use Rattle.bz_token.proofs.OneFault.{one_fault, one_tokens, no_fault}
 use Rattle.bz_tree.specs.declared.fault.ParseFault.TheVariants as parse
 use Rattle.bz_tree.specs.Tree.{Statement}
-use Rattle.bz_tree.specs.Brackets.{no_elems, without_lines}
+use Rattle.bz_tree.specs.Brackets.{without_lines, AreNested, no_token}
+use Rattle.bz_tree.specs.declared.tree.kinds.Preceding.TheVariants.{Other}
 use Rattle.bz_tree.specs.Statement.{bare_tokens, first_seen, segment_of, statement_with}
 use Rattle.bz_tree.specs.Grammar.{none as no_nodes, by_rule, this}
-use Rattle.bz_tree.specs.Chunk.{IsPlain, IsOneOf, indent_at, indent_fault, IsChunkOf, IsReadAs, IsNoStatement, IsLexical}
+use Rattle.bz_tree.specs.Chunk.{IsPlain, IsOneOf, indent_at, indent_fault, IsChunkOf, IsReadAs, IsNoStatement}
 use Rattle.bz_tree.proofs.Trees.Sound.{some_injective}
 use Rattle.bz_tree.proofs.Trees.Standing.{bare_empty}
 use Rattle.bz_layout_laws.proofs.ChunkLaws.{chunk_same}
@@ -38,7 +39,7 @@ none_counts ts h = bare_empty ts (nothing_seen (without_lines ts) h)
 -- They are a statement of nothing, and it is not that they are indented.
 blank_plain : (ts : List Placed) → without_lines ts ≡ [] → IsPlain ts (statement_with ts (segment_of []))
 blank_plain ts bare = record {
-  tree = record { elems = no_elems; tokens_are = bare; well = tt; is = refl };
+  tree = record { owns = []; nested = subst (λ (us : List Placed). AreNested Other us []) (sym bare) no_token; is = refl };
   grammar = by_rule (this no_nodes);
 }
 
@@ -120,15 +121,12 @@ record IsNoText (first : ℕ) (bytes : List ℕ) (answer : Result (Option Statem
 abbrev IsText : ℕ → ℕ → List ℕ → Result (Option Statement) SyntaxFault → Type 0
 IsText first depth bytes answer = IsUtf8 bytes × (IsLexFault first depth bytes answer ⊎ IsByTokens first depth bytes answer)
 
-lexical_some : (f : LexFault) → IsLexical f → f ≡ lex.OutOfMemory no_memory → ⊥
-lexical_some f lexical is = subst IsLexical is lexical
-
 by_way : (first depth : ℕ) (bytes : List ℕ) (a : Result (Option Statement) SyntaxFault) → IsAnswerOf depth first bytes a → IsText first depth bytes a ⊎ IsNoText first bytes a
 by_way first depth bytes (Ok (Some s)) g = inl (g.0, inr (record { tokens = g.1.tokens; are = g.1.are; by = g.1.reads }))
 by_way first depth bytes (Ok None) g = inl (g.0, inr (record { tokens = g.1.tokens; are = g.1.are; by = g.1.none }))
 by_way first depth bytes (Err (NotUtf8 line col)) g = inr (record { none = g.0; n = g.1.0; valid = g.1.1; answer_is = ap (λ x. Err x) g.1.2 })
 by_way first depth bytes (Err (Parse (parse.OutOfMemory _))) g = absurd (g.2 refl)
-by_way first depth bytes (Err (Parse (parse.Lex f))) g = inl (g.0, inl (record { fault = f; is = g.1.0; some = lexical_some f g.1.1; answer_is = refl }))
+by_way first depth bytes (Err (Parse (parse.Lex f))) g = inl (g.0, inl (record { fault = f; is = g.1.0; some = g.1.1; answer_is = refl }))
 by_way first depth bytes (Err (Parse (parse.Indented line))) g = inl (g.0, inr (record { tokens = g.1.tokens; are = g.1.are; by = g.1.is }))
 by_way first depth bytes (Err (Parse (parse.NotAStatement line))) g = inl (g.0, inr (record { tokens = g.1.tokens; are = g.1.are; by = g.1.is }))
 

@@ -1,20 +1,20 @@
 -- A file has one outcome, and the text of its first statements is a front of it.
 use Rattle.std.proofs.Common.{◌≡◌, ℕ, Bool, true, false, List, [], ◌∷◌, ◌++◌, map, refl, sym, ◌∙◌, ap, subst, append_assoc, append-nil, ◌⊎◌, inl, inr}
-use Rattle.std.specs.Prelude.{Option, None, Some, Result, Ok, Err, if◌then◌else◌}
+use Rattle.std.specs.Prelude.{◌↔◌, Option, None, Some, Result, Ok, Err, if◌then◌else◌}
 use Rattle.std.specs.List.{list_any}
 use Rattle.std.proofs.lemmas.Bool.{false≢true}
 use Rattle.bz_token.specs.Places.{line_at}
 use Rattle.bz_token.specs.Chunks.{chunks}
 use Rattle.bz_tree.specs.Tree.{Statement}
 use Rattle.bz_label.specs.Labels.{Package}
-use Rattle.bz_passes.specs.Passes.{Slot, slots_after}
+use Rattle.bz_passes.specs.Passes.{Slot, slots_after, Changes}
 use Rattle.bz_engine.specs.declared.report.SyntaxFault.{SyntaxFault}
 use Rattle.bz_passes.specs.Exchange.{slot_after, some_alone}
 use Rattle.bz_engine.specs.Language.{meaning, fails_on}
 use Rattle.bz_engine.specs.File.{Follows, AreStatementsOf}
 use Rattle.bz_engine.specs.Progress.{last_class, text_following}
 use Rattle.bz_engine.specs.Outcome.{Script, Run, slots_of, is_query, text_after, Told, some_failure, told_of, told_of_failure, BeginsWith, IsWholeRun, EndsAtFailure, IsOutcome, IsFrontOf}
-use Rattle.bz_passes.proofs.ExchangeLaw.{some_alone_lem}
+use Rattle.bz_engine.proofs.Failures.{failure_each}
 use Rattle.bz_engine.proofs.OneSlot.{fails_alone}
 use Rattle.bz_passes.proofs.Failures.{or_left, or_right}
 use Rattle.bz_engine.proofs.Given.{none_is_some}
@@ -103,7 +103,7 @@ none_within test (b ∷ before) more s h = none_within test before more s (or_ri
 
 calm_at : {X : Type 0} (home : Package) (passes : Script) (ss before more : List Statement) (s : Statement) → some_failure home passes ss ≡ false → ss ≡ (before ++ s ∷ []) ++ more → some_failure home passes (s ∷ []) ≡ true → X
 calm_at home passes ss before more s calm is fails =
-    let each = some_alone_lem (meaning home) (fails_on home) passes (slots_of ((before ++ s ∷ []) ++ more)) in
+    let each = failure_each home passes ((before ++ s ∷ []) ++ more) in
     let none = none_within (some_alone (meaning home) (fails_on home) passes) before more s (sym each ∙ ap (some_failure home passes) (sym is) ∙ calm) in
     absurd (false≢true (sym none ∙ sym (fails_alone home passes s) ∙ fails))
 
@@ -162,13 +162,25 @@ front_of_outcome run file xs text told first (inr e) =
       | inr r ↦ calm_at run.home run.passes xs e.before r.0 e.statement (first.calm e.ends) r.1 e.fails
     ]
 
+-- two that tell of one change tell the same
+same_change : (A : Type 0) (b c : Bool) → (b ≡ true) ↔ A → (c ≡ true) ↔ A → b ≡ c
+same_change A true c p q = sym (q.1 (p.0 refl))
+same_change A false true p q = p.1 (q.0 refl)
+same_change A false false p q = refl
+
+one_change : (run : Run) (ss ts : List Statement) (b c : Bool) → ss ≡ ts → (b ≡ true) ↔ Changes (meaning run.home) run.passes (slots_of ss)
+    → (c ≡ true) ↔ Changes (meaning run.home) run.passes (slots_of ts) → b ≡ c
+one_change run ss ts b c same p q =
+    same_change (Changes (meaning run.home) run.passes (slots_of ts)) b c (subst (λ l. (b ≡ true) ↔ Changes (meaning run.home) run.passes (slots_of l)) same p) q
+
 -- two outcomes
 one_whole : (run : Run) (file text text2 : List ℕ) (told told2 : Told)
     → IsWholeRun run file text told → IsWholeRun run file text2 told2 → (text ≡ text2) × (told ≡ told2)
 one_whole run file text text2 told told2 p q =
-    let same = one_give run.max_depth 1 (chunks file) p.statements q.statements p.fault q.fault p.read q.read in (
+    let same = one_give run.max_depth 1 (chunks file) p.statements q.statements p.fault q.fault p.read q.read in
+    let changed = one_change run p.statements q.statements told.changed told2.changed same.0 p.changed q.changed in (
       p.text_is ∙ ap (text_after run.home run.passes) same.0 ∙ sym q.text_is,
-      p.told_is ∙ ap (λ ss. told_of run.home run.passes ss p.fault) same.0 ∙ ap (told_of run.home run.passes q.statements) same.1 ∙ sym q.told_is,
+      p.told_is ∙ (λ i. told_of run.home run.passes (same.0 i) (same.1 i) (changed i)) ∙ sym q.told_is,
     )
 
 not_both : {X : Type 0} (run : Run) (file text text2 : List ℕ) (told told2 : Told)
@@ -200,9 +212,10 @@ first_failure run file text text2 told told2 p q =
 one_failure : (run : Run) (file text text2 : List ℕ) (told told2 : Told)
     → EndsAtFailure run file text told → EndsAtFailure run file text2 told2 → (text ≡ text2) × (told ≡ told2)
 one_failure run file text text2 told told2 p q =
-    let same = first_failure run file text text2 told told2 p q in (
+    let same = first_failure run file text text2 told told2 p q in
+    let changed = one_change run p.before q.before told.changed told2.changed same.0 p.changed q.changed in (
       p.text_is ∙ ap (text_after run.home run.passes) same.0 ∙ sym q.text_is,
-      p.told_is ∙ ap (λ ss. told_of_failure run.home run.passes ss p.statement) same.0 ∙ ap (told_of_failure run.home run.passes q.before) same.1 ∙ sym q.told_is,
+      p.told_is ∙ (λ i. told_of_failure run.home run.passes (same.1 i) (changed i)) ∙ sym q.told_is,
     )
 
 pub one_outcome : (run : Run) (file text text2 : List ℕ) (told told2 : Told)

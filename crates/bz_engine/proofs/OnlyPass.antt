@@ -22,6 +22,7 @@ use Rattle.bz_rule.specs.OneAttribute.{one_attribute}
 use Rattle.bz_rule.proofs.HeadKept.{name_stays}
 use Rattle.bz_passes.specs.Exchange.{Fits, IsPassedBy, Kept, kept_alone, kept_and, pass_alone, slot_after, slot_after_pass, some_alone, some_of_commands_alone}
 use Rattle.bz_passes.specs.Asked.{IsKeyOf, asked_by}
+use Rattle.bz_engine.proofs.Noted.{says_is}
 use Rattle.bz_passes.specs.OnePass.{IsOnlyAt, IsOnlyFor, and_at}
 use Rattle.bz_passes.specs.declared.index.Key.{Key}
 use Rattle.bz_passes.specs.declared.entry.Entry.{Entry}
@@ -109,7 +110,8 @@ quiet_log home s d quiet = ap (λ n. map Line (option_to_list d.line) ++ note_to
 kept_of_one : (home : Package) (only : OnePass) (s : Statement) (d : Done) → marks only.target.now s ≡ true → done_of only.command.now home (Some s) ≡ d
     → pass_alone (meaning home) (one_pass only) (Some s) ≡ one_log_of (log_of_one home s d)
 kept_of_one home only s d met told =
-    ap (λ b. kept_by b (if b then (meaning home).says only.command.now (Some s) else [])) met ∙ ap (λ x. kept_by true (log_of_one home s x)) told
+    ap (λ b. kept_by b (if b then (meaning home).says only.command.now (Some s) else [])) met
+    ∙ ap (kept_by true) (sym (says_is home only.command.now (Some s))) ∙ ap (λ x. kept_by true (log_of_one home s x)) told
 
 or_nothing : (b : Bool) → (b || false) ≡ b
 or_nothing true = refl

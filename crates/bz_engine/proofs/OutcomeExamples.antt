@@ -1,11 +1,13 @@
 -- Worked examples that compute: texts of messages, the outcome of an empty file, and the exit status.
-use Rattle.std.specs.Prelude.{◌≡◌, ℕ, Bool, true, false, List, [], ◌∷◌, None, Some, codes}
-use Rattle.std.proofs.Common.{refl, inl}
+use Rattle.std.specs.Prelude.{◌≡◌, ◌↔◌, ℕ, Bool, true, false, List, [], ◌∷◌, None, Some, codes}
+use Rattle.std.proofs.Common.{refl, inl, arith}
 use Rattle.bz_label.specs.Labels.{Package, Target, Name, All}
 use Rattle.bz_rule.specs.declared.command.Action.TheVariants.{Delete}
 use Rattle.bz_attribute.specs.declared.done.Note.TheVariants.{Missing, NoAttribute, AttributeExists, NotAList, NoValue}
 use Rattle.bz_engine.specs.declared.report.End.TheVariants.{Whole}
 use Rattle.bz_engine.specs.declared.report.Report.{Report}
+use Rattle.bz_passes.specs.Passes.{Changes}
+use Rattle.bz_engine.specs.Language.{meaning}
 use Rattle.bz_engine.specs.Messages.{not_found_text, note_text}
 use Rattle.bz_engine.specs.Outcome.{Script, Run, Told, IsOutcome, status_of}
 
@@ -40,11 +42,22 @@ run_of passes = record { home = home; passes = passes; keep_going = false; max_d
 abbrev told : List (List ℕ) → Bool → Told
 told messages failed = record { lines = []; messages = messages; changed = false; failed = failed; end = Whole }
 
+nothing_changes : (target : Target) → (false ≡ true) ↔ Changes (meaning home) (deleting target) []
+nothing_changes target = (λ h. absurd cc, λ some. absurd (omega (arith, some.2)))
+
 nothing_there : IsOutcome (run_of (deleting (Name (codes "a")))) [] [] (told (codes "//p:a: no such rule" ∷ []) true)
-nothing_there = inl (record { statements = []; fault = None; read = (refl, refl); calm = λ h. refl; text_is = refl; told_is = refl })
+nothing_there = inl (record {
+  statements = [];
+  fault = None;
+  read = (refl, refl);
+  calm = λ h. refl;
+  text_is = refl;
+  changed = nothing_changes (Name (codes "a"));
+  told_is = refl;
+})
 
 all_of_nothing : IsOutcome (run_of (deleting All)) [] [] (told [] false)
-all_of_nothing = inl (record { statements = []; fault = None; read = (refl, refl); calm = λ h. refl; text_is = refl; told_is = refl })
+all_of_nothing = inl (record { statements = []; fault = None; read = (refl, refl); calm = λ h. refl; text_is = refl; changed = nothing_changes All; told_is = refl })
 
 abbrev report : Bool → Bool → Report
 report changed failed = record { lines = []; messages = []; changed = changed; failed = failed; end = Whole }

@@ -20,6 +20,7 @@ use Rattle.bz_engine.specs.declared.session.SessionState.TheVariants.{Going, End
 use Rattle.bz_engine.specs.declared.session.Step.{Step}
 use Rattle.bz_engine.specs.declared.session.Step.TheVariants as step
 use Rattle.bz_engine.specs.Progress.{Progress}
+use Rattle.bz_engine.specs.Scripts.{AreCommands}
 use Rattle.bz_engine.specs.SessionValue.{SessionValue, IsSameRun, IsReady, HasDone, HasEnded}
 use Rattle.bz_engine.specs.SessionSteps.{Reader, Writer, reader, writer, AddsOne, EndsRun, IsCutShort, IsLeftByFault, Did, Steps}
 use Rattle.bz_engine.specs.Stops.{NeedsRead, Tells}
@@ -91,45 +92,45 @@ same_after : (v e : SessionValue) → (let after : SessionValue = record v { ahe
 same_after v e after = record { home = ap (λ x. x.home) after; passes = ap (λ x. x.passes) after; options = ap (λ x. x.options) after }
 
 -- at the end of the input
-pub ends_whole : (old v e new : SessionValue) (read : List (List ℕ)) → IsAtChunk old v
+pub ends_whole : (old v e new : SessionValue) (read : List (List ℕ)) → AreCommands old.passes → IsAtChunk old v
     → IsReadOn v.options.max_reads v.ahead e.ahead read → AreFew v.options.max_statement v.ahead.bytes read
     → (e.progress ≡ v.progress) × (e.ahead.bytes ≡ []) × IsTrue e.ahead.ended
     → (let after : SessionValue = record v { ahead = e.ahead; progress = e.progress } in e ≡ after)
     → (let there : SessionValue = record e { state = Ended Whole } in new ≡ there)
     → EndsRun old new read
-ends_whole old v e new read at on needed none after there =
+ends_whole old v e new read commands at on needed none after there =
     let with_progress : Progress → SessionValue = λ p. record v { ahead = e.ahead; progress = p } in
     ends_run old v e new Whole read at on needed (same_after v e after) (nothing_fits v.options.max_statement e.ahead none.1) there
     (λ pieces cs text done. subst (λ x. HasEnded x Whole (pieces ++ read) cs text) (sym (after ∙ ap with_progress none.0))
-    (ended_whole v e.ahead v.options.max_reads pieces cs read text done on none.1 none.2))
+    (ended_whole v e.ahead v.options.max_reads pieces cs read text (subst (λ x. AreCommands x.passes) (sym at) commands) done on none.1 none.2))
 
 -- at a chunk with a fault
-pub ends_at_fault : (old v e new : SessionValue) (before following : List ℕ) (next : NextChunk) (fault : SyntaxFault) (read : List (List ℕ)) → IsAtChunk old v
+pub ends_at_fault : (old v e new : SessionValue) (before following : List ℕ) (next : NextChunk) (fault : SyntaxFault) (read : List (List ℕ)) → AreCommands old.passes → IsAtChunk old v
     → IsReadOn v.options.max_reads v.ahead e.ahead read → AreFew v.options.max_statement v.ahead.bytes read
     → IsNextEdited v e before following next → before ≡ [] → next.edited ≡ Faulty fault
     → (let after : SessionValue = record v { ahead = e.ahead; progress = e.progress } in e ≡ after)
     → (let there : SessionValue = record e { state = Ended (Syntax fault) } in new ≡ there)
     → EndsRun old new read
-ends_at_fault old v e new before following next fault read at on needed is none faulty after there =
+ends_at_fault old v e new before following next fault read commands at on needed is none faulty after there =
     ends_run old v e new (Syntax fault) read at on needed (same_after v e after) (next_fits v.options.max_statement next.len e.ahead is.chunk) there
-    (λ pieces cs text done. chunk_faulty v e e.ahead before following next.edited fault v.options.max_reads next.len pieces cs read text
+    (λ pieces cs text done. chunk_faulty v e e.ahead before following next.edited fault v.options.max_reads next.len pieces cs read text (subst (λ x. AreCommands x.passes) (sym at) commands)
     done on is.chunk none after is.edited faulty)
 
 -- at the first failure
-pub ends_at_failure : (old v e f new : SessionValue) (before following : List ℕ) (next : NextChunk) (message : Option (List ℕ)) (read : List (List ℕ)) → IsAtChunk old v
+pub ends_at_failure : (old v e f new : SessionValue) (before following : List ℕ) (next : NextChunk) (message : Option (List ℕ)) (read : List (List ℕ)) → AreCommands old.passes → IsAtChunk old v
     → IsReadOn v.options.max_reads v.ahead e.ahead read → AreFew v.options.max_statement v.ahead.bytes read
     → IsNextEdited v e before following next → before ≡ [] → next.edited ≡ Failed message
     → (let after : SessionValue = record v { ahead = e.ahead; progress = e.progress } in e ≡ after)
     → (let failed : SessionValue = record e { failure = message } in f ≡ failed)
     → (let there : SessionValue = record f { state = Ended FirstFailure } in new ≡ there)
     → EndsRun old new read
-ends_at_failure old v e f new before following next message read at on needed is none fails after failed there =
+ends_at_failure old v e f new before following next message read commands at on needed is none fails after failed there =
     let same = same_after v e after in
     let ahead = ap (λ x. x.ahead) failed in
     ends_run old v f new FirstFailure read at (subst (λ a. IsReadOn v.options.max_reads v.ahead a read) (sym ahead) on) needed
     (record { home = ap (λ x. x.home) failed ∙ same.home; passes = ap (λ x. x.passes) failed ∙ same.passes; options = ap (λ x. x.options) failed ∙ same.options })
     (λ long. next_fits v.options.max_statement next.len e.ahead is.chunk (subst (λ a. IsTooLong v.options.max_statement a) ahead long)) there
-    (λ pieces cs text done. chunk_failed v e f e.ahead before following next.edited message v.options.max_reads next.len pieces cs read text
+    (λ pieces cs text done. chunk_failed v e f e.ahead before following next.edited message v.options.max_reads next.len pieces cs read text (subst (λ x. AreCommands x.passes) (sym at) commands)
     done on is.chunk none after is.edited fails failed)
 
 -- the next chunk's text was not written to its end
@@ -157,9 +158,6 @@ steps_as source sink old new result e f is same = subst (Steps source sink old n
 
 no_err : (x : Step) (f : RunFault) → (let r : Result Step RunFault = Ok x in r) ≡ Err f → ⊥
 no_err x f h = cc
-
-more_is_not_end : (let r : Result Step RunFault = Ok step.End in r) ≡ Ok step.More → ⊥
-more_is_not_end h = cc
 
 module _ {S W T : Type 0} (gave : S → List (List ℕ) → S → Type 0) (reads_failed : S → ℕ) (took : W → List ℕ → W → Type 0) (writes_failed : W → ℕ) where
   abbrev FindsAs : SessionValue → SessionValue → S → S → Result T RunFault → Type 0

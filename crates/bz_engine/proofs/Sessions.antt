@@ -1,12 +1,9 @@
 -- What a session has done, with one chunk more, and where it ends.
-use Rattle.std.proofs.Common.{◌≡◌, ℕ, ◌+◌, ◌≤◌, ◌^◌, Bool, true, false, List, [], ◌∷◌, ◌++◌, length, take, drop, length-append, take-append-drop, refl, sym, ◌∙◌, ap, subst, append-nil, inl, inr, flat_map}
-use Rattle.std.specs.Prelude.{IsTrue, Option, None, Some, Ok, Err}
+use Rattle.std.proofs.Common.{◌≡◌, ℕ, ◌+◌, ◌≤◌, Bool, true, false, ◌||◌, not, List, [], ◌∷◌, ◌++◌, length, take, drop, length-append, take-append-drop, refl, sym, ◌∙◌, ap, subst, append-nil, inl, inr, flat_map}
+use Rattle.std.specs.Prelude.{◌↔◌, IsTrue, Option, None, Some, Ok, Err}
 use Rattle.bz_token.specs.Chunks.{chunks}
 use Rattle.bz_tree.specs.Tree.{Statement}
 use Rattle.bz_engine.specs.declared.report.SyntaxFault.{SyntaxFault}
-use Rattle.std.proofs.lemmas.Bool.{false≢true}
-use Rattle.bz_engine.specs.declared.session.SessionState.{SessionState}
-use Rattle.bz_engine.specs.declared.session.SessionState.TheVariants.{Going, Ended, Stopped}
 use Rattle.bz_engine.specs.declared.report.End.{End}
 use Rattle.bz_engine.specs.declared.report.End.TheVariants.{Whole, Syntax, FirstFailure}
 use Rattle.bz_devices.specs.Device.{ends}
@@ -14,11 +11,17 @@ use Rattle.bz_devices.specs.Ahead.{Ahead, IsReadOn, IsNextChunk}
 use Rattle.bz_engine.specs.Language.{meaning}
 use Rattle.bz_engine.specs.File.{AreStatementsOf, IsAnswerOf}
 use Rattle.bz_engine.specs.Messages.{fault_text}
-use Rattle.bz_engine.specs.Outcome.{Run, slots_of, text_after, said, told_of}
+use Rattle.bz_engine.specs.Outcome.{Run, slots_of, text_after, told_of}
+use Rattle.bz_engine.specs.Scripts.{AreCommands}
+use Rattle.bz_engine.proofs.ChangesLaw.{changes_tell}
+use Rattle.bz_engine.proofs.Failures.{calm_of, failure_is, log_fails}
+use Rattle.bz_passes.specs.Exchange.{told, some_not_found}
+use Rattle.bz_passes.specs.Passes.{Changes, log_of}
+use Rattle.bz_token.specs.Common.{is_empty}
 use Rattle.bz_engine.specs.Progress.{Progress, IsKeptOf}
 use Rattle.bz_engine.specs.private.Edits.{IsDone, IsFailed}
-use Rattle.bz_engine.specs.SessionValue.{SessionValue, run_in, IsSession, HasDone, HasEnded, told_of_progress, told_alone}
-use Rattle.bz_passes.proofs.ExchangeLaw.{log_by_pass, missing_lem}
+use Rattle.bz_engine.specs.SessionValue.{SessionValue, run_in, HasDone, HasEnded, told_of_progress, told_alone}
+use Rattle.bz_passes.proofs.ExchangeLaw.{told_left, missing_left}
 use Rattle.bz_devices.proofs.MoreReads.{ends_more, open_more, bytes_more, chunks_more, chunk_taken, one_more}
 use Rattle.bz_engine.proofs.Given.{give_fault, give_statement}
 use Rattle.bz_engine.proofs.NeededReads.{needed_on, reads_of}
@@ -26,7 +29,7 @@ use Rattle.bz_engine.specs.NeededReads.{AreReads}
 use Rattle.bz_engine.specs.Stops.{ComesNext}
 use Rattle.bz_engine.specs.private.Finds.{AreFew}
 use Rattle.std.proofs.lemmas.List.{length-take-le}
-use Rattle.bz_passes.specs.Entries.{failure_text}
+use Rattle.bz_passes.specs.Entries.{line_text, message_text, failure_text}
 use Rattle.std.specs.List.{concat}
 
 -- the chunks of the file after more reads
@@ -86,15 +89,26 @@ went_on v mid progress max_reads most n pieces cs read text after done on needed
 
 -- what is told at the end of the file
 told_whole : (run : Run) (cs : List (List ℕ)) (ss : List Statement) (p : Progress)
-    → IsKeptOf run cs ss p → told_of_progress run.home run.passes p ≡ told_of run.home run.passes ss None
+    → IsKeptOf run cs ss p → told_of_progress run.home run.passes p ≡ told_of run.home run.passes ss None p.changed
 told_whole run cs ss p kept =
-    rw (kept.left.kept, kept.left.changed, kept.left.failed, ← log_by_pass (meaning run.home) run.passes (slots_of ss), ← missing_lem (meaning run.home) run.passes (slots_of ss)) refl
+    let log : told (meaning run.home) run.passes p.kept ≡ log_of (meaning run.home) run.passes (slots_of ss) =
+    told_left (meaning run.home) run.passes (slots_of ss) p.kept kept.left.kept in
+    let failed : (p.failed || some_not_found (meaning run.home) run.passes p.kept) ≡ not (is_empty (flat_map failure_text (log_of (meaning run.home) run.passes (slots_of ss)))) =
+    (λ i. (kept.left.failed ∙ sym (failure_is run.home run.passes ss)) i || missing_left (meaning run.home) run.passes (slots_of ss) p.kept kept.left.kept i)
+    ∙ sym (log_fails run.home run.passes ss) in
+    λ i. record { lines = flat_map line_text (log i); messages = flat_map message_text (log i); changed = p.changed; failed = failed i; end = Whole }
+
+-- what is kept tells of a change where one took place
+change_kept : (run : Run) (cs : List (List ℕ)) (ss : List Statement) (p : Progress) → AreCommands run.passes → IsKeptOf run cs ss p
+    → (p.changed ≡ true) ↔ Changes (meaning run.home) run.passes (slots_of ss)
+change_kept run cs ss p commands kept =
+    subst (λ b. (b ≡ true) ↔ Changes (meaning run.home) run.passes (slots_of ss)) (sym kept.left.changed) (changes_tell run.home run.passes (slots_of ss) commands)
 
 -- the input has ended
 pub ended_whole : (v : SessionValue) (mid : Ahead) (max_reads : ℕ) (pieces cs read : List (List ℕ)) (text : List ℕ)
-    → HasDone v pieces cs text → IsReadOn max_reads v.ahead mid read → mid.bytes ≡ [] → IsTrue mid.ended
+    → AreCommands v.passes → HasDone v pieces cs text → IsReadOn max_reads v.ahead mid read → mid.bytes ≡ [] → IsTrue mid.ended
     → HasEnded (record v { ahead = mid }) Whole (pieces ++ read) cs text
-ended_whole v mid max_reads pieces cs read text done on nothing over =
+ended_whole v mid max_reads pieces cs read text commands done on nothing over =
     let all : (rest : List ℕ) → (IsTrue (ends (pieces ++ read)) → rest ≡ []) → chunks (concat (pieces ++ read) ++ rest) ≡ cs = λ rest last.
     let none : rest ≡ [] = last (subst IsTrue (ended_on v mid max_reads pieces cs read text done on) over) in
     read_on v mid max_reads pieces cs read text done on rest (λ h. none) ∙ ap (λ l. cs ++ chunks (l ++ rest)) nothing ∙ ap (λ l. cs ++ chunks l) none ∙ append-nil cs in
@@ -105,8 +119,9 @@ ended_whole v mid max_reads pieces cs read text done on nothing over =
               statements = done.statements;
               fault = None;
               read = subst (λ l. AreStatementsOf v.options.max_depth 1 l done.statements None) (sym (all rest last)) done.kept.read;
-              calm = λ h. sym done.kept.left.failed ∙ done.calm h;
+              calm = calm_of v pieces cs text done;
               text_is = done.text_is;
+              changed = change_kept (run_in v) cs done.statements v.progress commands done.kept;
               told_is = told_whole (run_in v) cs done.statements v.progress done.kept;
             });
       };
@@ -132,10 +147,10 @@ comes_next v mid max_reads n pieces cs read text done on next = record {
 
 -- a chunk has a fault
 pub ended_fault : (v : SessionValue) (mid : Ahead) (fault : SyntaxFault) (max_reads n : ℕ) (pieces cs read : List (List ℕ)) (text : List ℕ)
-    → HasDone v pieces cs text → IsReadOn max_reads v.ahead mid read → IsNextChunk v.options.max_statement mid n
+    → AreCommands v.passes → HasDone v pieces cs text → IsReadOn max_reads v.ahead mid read → IsNextChunk v.options.max_statement mid n
     → IsAnswerOf v.options.max_depth v.progress.line (take n mid.bytes) (Err fault)
     → HasEnded (record v { ahead = mid }) (Syntax fault) (pieces ++ read) cs text
-ended_fault v mid fault max_reads n pieces cs read text done on next gives = record {
+ended_fault v mid fault max_reads n pieces cs read text commands done on next gives = record {
   outcome = record {
     each = λ rest last. inl (record {
       statements = done.statements;
@@ -143,9 +158,10 @@ ended_fault v mid fault max_reads n pieces cs read text done on next gives = rec
       read = subst (λ l. AreStatementsOf v.options.max_depth 1 l done.statements (Some fault))
           (sym (next_after v mid max_reads n pieces cs read text done on next rest last))
           (give_fault v.options.max_depth v.progress.line cs done.statements (take n mid.bytes) (chunks (drop n mid.bytes ++ rest)) fault done.kept.read done.kept.line gives);
-      calm = λ h. sym done.kept.left.failed ∙ done.calm h;
+      calm = calm_of v pieces cs text done;
       text_is = done.text_is;
-      told_is = ap (λ b. told_alone (fault_text fault ∷ []) b (Syntax fault)) done.kept.left.changed;
+      changed = change_kept (run_in v) cs done.statements v.progress commands done.kept;
+      told_is = refl;
     });
   };
   last = (
@@ -157,10 +173,10 @@ ended_fault v mid fault max_reads n pieces cs read text done on next gives = rec
 
 -- an execution fails on a chunk's statement, and failures end the run
 pub ended_failure : (v : SessionValue) (mid : Ahead) (progress : Progress) (message : Option (List ℕ)) (after : List ℕ) (max_reads n : ℕ) (pieces cs read : List (List ℕ)) (text : List ℕ)
-    → HasDone v pieces cs text → IsReadOn max_reads v.ahead mid read → IsNextChunk v.options.max_statement mid n
+    → AreCommands v.passes → HasDone v pieces cs text → IsReadOn max_reads v.ahead mid read → IsNextChunk v.options.max_statement mid n
     → IsFailed (run_in v) (take n mid.bytes) message v.progress progress [] after
     → HasEnded (record v { ahead = mid; progress = progress; failure = message }) FirstFailure (pieces ++ read) cs text
-ended_failure v mid progress message after max_reads n pieces cs read text done on next failed =
+ended_failure v mid progress message after max_reads n pieces cs read text commands done on next failed =
     let calm : v.progress.failed ≡ false = done.calm failed.ends in
     record {
       outcome = record {
@@ -176,11 +192,12 @@ ended_failure v mid progress message after max_reads n pieces cs read text done 
                 chunks_are = all ∙ one_more cs (chunks (drop n mid.bytes ++ rest)) (take n mid.bytes);
                 read = give_statement v.options.max_depth v.progress.line cs done.statements (take n mid.bytes) failed.statement done.kept.read done.kept.line failed.read;
               };
-              calm = sym done.kept.left.failed ∙ calm;
+              calm = calm_of v pieces cs text done failed.ends;
               fails = failed.fails calm;
               text_is = done.text_is;
-              told_is = ap (λ l. told_alone l progress.changed FirstFailure) (failed.message_is calm)
-                  ∙ ap (λ b. told_alone (take 1 (flat_map failure_text (said (meaning v.home) v.passes (slots_of (failed.statement ∷ []))))) b FirstFailure) (failed.changed ∙ done.kept.left.changed);
+              changed = subst (λ b. (b ≡ true) ↔ Changes (meaning v.home) v.passes (slots_of done.statements)) (sym failed.changed)
+                  (change_kept (run_in v) cs done.statements v.progress commands done.kept);
+              told_is = ap (λ l. told_alone l progress.changed FirstFailure) (failed.message_is calm);
             });
       };
       last = (
@@ -191,34 +208,3 @@ ended_failure v mid progress message after max_reads n pieces cs read text done 
         failed.fails calm,
       );
     }
-
--- a stopped session keeps to little
-going_not_stopped : (s : SessionState) → s ≡ Stopped → s ≡ Going → ⊥
-going_not_stopped s h i = stopped_going (sym h ∙ i)
-  where
-    is_stopped : SessionState → Bool
-    is_stopped Going = false
-    is_stopped (Ended end) = false
-    is_stopped Stopped = true
-
-    stopped_going : Stopped ≡ Going → ⊥
-    stopped_going k = false≢true (sym (ap is_stopped k))
-
-ended_not_stopped : (s : SessionState) (end : End) → s ≡ Stopped → s ≡ Ended end → ⊥
-ended_not_stopped s end h i = stopped_ended (sym h ∙ i)
-  where
-    is_stopped : SessionState → Bool
-    is_stopped Going = false
-    is_stopped (Ended end) = false
-    is_stopped Stopped = true
-
-    stopped_ended : Stopped ≡ Ended end → ⊥
-    stopped_ended k = false≢true (sym (ap is_stopped k))
-
-pub stopped_session : (v : SessionValue) → v.state ≡ Stopped → v.options.max_reads ≤ 2 ^ 50 → v.ahead.reads ≤ v.options.max_reads → IsSession v
-stopped_session v stopped limit made = record {
-  limit = limit;
-  made = made;
-  ready = λ h. absurd (going_not_stopped v.state stopped h);
-  fits = λ end h. absurd (ended_not_stopped v.state end stopped h);
-}

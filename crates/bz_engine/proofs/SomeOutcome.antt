@@ -1,6 +1,6 @@
 -- A file has an outcome.
 use Rattle.std.proofs.Common.{◌≡◌, ℕ, zero, suc, ◌<◌, ◌≤◌, length, take, take_all, arith, Bool, true, false, ◌||◌, List, [], ◌∷◌, ◌++◌, map, refl, sym, ◌∙◌, ap, subst, ◌⊎◌, inl, inr}
-use Rattle.std.specs.Prelude.{Option, None, Some, Result, Ok, Err}
+use Rattle.std.specs.Prelude.{◌↔◌, Option, None, Some, Result, Ok, Err}
 use Rattle.std.specs.List.{list_any}
 use Rattle.std.specs.Str.{IsUtf8, is_utf8, IsValidUpTo}
 use Rattle.std.proofs.lemmas.Bool.{false≢true, cases_lt}
@@ -10,14 +10,17 @@ use Rattle.bz_token.specs.Chunks.{chunks}
 use Rattle.bz_tree.specs.Tree.{Statement}
 use Rattle.bz_layout_laws.specs.Answers.{HasAnswer}
 use Rattle.bz_layout_laws.proofs.SomeAnswer.{some_answer}
-use Rattle.bz_passes.specs.Passes.{Slot}
+use Rattle.bz_passes.specs.Passes.{Slot, Changes}
 use Rattle.bz_engine.specs.declared.report.SyntaxFault.{SyntaxFault}
 use Rattle.bz_engine.specs.declared.report.SyntaxFault.TheVariants.{Parse}
 use Rattle.bz_passes.specs.Exchange.{some_alone}
 use Rattle.bz_engine.specs.Language.{meaning, fails_on}
 use Rattle.bz_engine.specs.File.{not_utf8, IsAnswerOf, Follows, AreStatementsOf}
-use Rattle.bz_engine.specs.Outcome.{Run, slots_of, text_after, Told, some_failure, told_of, told_of_failure, IsOutcome}
-use Rattle.bz_passes.proofs.ExchangeLaw.{some_alone_lem}
+use Rattle.bz_label.specs.Labels.{Package}
+use Rattle.bz_engine.specs.Outcome.{Run, Script, slots_of, text_after, Told, some_failure, told_of, told_of_failure, IsOutcome}
+use Rattle.bz_passes.proofs.Executions.{some_change}
+use Rattle.bz_engine.proofs.Decided.{slot_told}
+use Rattle.bz_engine.proofs.Failures.{failure_each}
 use Rattle.bz_engine.proofs.OneSlot.{fails_alone}
 
 -- a chunk gives an answer
@@ -152,6 +155,10 @@ ends_at depth line (c ∷ cs) before more s fault p = at_answer (λ bs. ends_at 
         let rest = go bs more s fault (subst (λ l. AreStatementsOf depth (line_at line c) cs l fault) left q.2) in
         record { front = c ∷ rest.front; after = rest.after; are = ap (λ l. c ∷ l) rest.are; read = (Ok (Some t), g, (bs ++ s ∷ [], ap (λ u. u ∷ (bs ++ s ∷ [])) same, rest.read)) }
 
+-- of statements it can be told whether the script changes some
+pub change_told : (home : Package) (passes : Script) (ss : List Statement) → (b : Bool) × ((b ≡ true) ↔ Changes (meaning home) passes (slots_of ss))
+change_told home passes ss = some_change (meaning home) slot_told passes (slots_of ss)
+
 pub some_outcome : (run : Run) (file : List ℕ) → (text : List ℕ) × (told : Told) × IsOutcome run file text told
 some_outcome run file = at_keep run.keep_going refl (some_failure run.home run.passes ss) refl
   where
@@ -164,23 +171,39 @@ some_outcome run file = at_keep run.keep_going refl (some_failure run.home run.p
     read : AreStatementsOf run.max_depth 1 (chunks file) ss fault
     read = (some_give run.max_depth 1 (chunks file)).2
 
+    changed : (some : List Statement) → (b : Bool) × ((b ≡ true) ↔ Changes (meaning run.home) run.passes (slots_of some))
+    changed some = change_told run.home run.passes some
+
+    told_changed : (f : Option SyntaxFault) → ((told_of run.home run.passes ss f (changed ss).0).changed ≡ true) ↔ Changes (meaning run.home) run.passes (slots_of ss)
+    told_changed None = (changed ss).1
+    told_changed (Some e) = (changed ss).1
+
+    told_same : (f : Option SyntaxFault) → told_of run.home run.passes ss f (changed ss).0 ≡ told_of run.home run.passes ss f (told_of run.home run.passes ss f (changed ss).0).changed
+    told_same None = refl
+    told_same (Some e) = refl
+
     whole : (run.keep_going ≡ false → some_failure run.home run.passes ss ≡ false) → (text : List ℕ) × (told : Told) × IsOutcome run file text told
-    whole calm = (text_after run.home run.passes ss, told_of run.home run.passes ss fault, inl (record { statements = ss; fault = fault; read = read; calm = calm; text_is = refl; told_is = refl }))
+    whole calm = (
+      text_after run.home run.passes ss,
+      told_of run.home run.passes ss fault (changed ss).0,
+      inl (record { statements = ss; fault = fault; read = read; calm = calm; text_is = refl; changed = told_changed fault; told_is = told_same fault }),
+    )
 
     cut : run.keep_going ≡ false → some_failure run.home run.passes ss ≡ true → (text : List ℕ) × (told : Told) × IsOutcome run file text told
     cut ends fails =
-        let first = first_found (some_alone (meaning run.home) (fails_on run.home) run.passes) ss (sym (some_alone_lem (meaning run.home) (fails_on run.home) run.passes (slots_of ss)) ∙ fails) in
+        let first = first_found (some_alone (meaning run.home) (fails_on run.home) run.passes) ss (sym (failure_each run.home run.passes ss) ∙ fails) in
         let at = ends_at run.max_depth 1 (chunks file) first.before first.more first.statement fault (subst (λ l. AreStatementsOf run.max_depth 1 (chunks file) l fault) first.are read) in (
           text_after run.home run.passes first.before,
-          told_of_failure run.home run.passes first.before first.statement,
+          told_of_failure run.home run.passes first.statement (changed first.before).0,
           inr (record {
             ends = ends;
             before = first.before;
             statement = first.statement;
             read = record { front = at.front; after = at.after; chunks_are = at.are; read = at.read };
-            calm = some_alone_lem (meaning run.home) (fails_on run.home) run.passes (slots_of first.before) ∙ first.none;
+            calm = failure_each run.home run.passes first.before ∙ first.none;
             fails = fails_alone run.home run.passes first.statement ∙ first.passes;
             text_is = refl;
+            changed = (changed first.before).1;
             told_is = refl;
           }),
         )

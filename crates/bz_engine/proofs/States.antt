@@ -1,22 +1,18 @@
 -- States and answers that differ, and what a session keeps from one call to the next.
-use Rattle.std.proofs.Common.{◌≡◌, ◌≢◌, refl, ℕ, ◌+◌, ◌≤◌, Bool, true, false, List, ◌++◌, take, sym, ◌∙◌, ap, subst}
+use Rattle.std.proofs.Common.{◌≡◌, ◌≢◌, ℕ, ◌+◌, ◌≤◌, Bool, true, false, List, take, sym, ◌∙◌, ap, subst}
 use Rattle.std.specs.Prelude.{Result, Err, OnOk, IfOk}
 use Rattle.std.proofs.lemmas.Bool.{false≢true}
-use Rattle.bz_devices.proofs.PassedOn.{err_is}
 use Rattle.bz_engine.specs.declared.report.End.{End}
 use Rattle.bz_engine.specs.declared.run_fault.RunFault.{RunFault}
 use Rattle.bz_engine.specs.declared.run_fault.RunFault.TheVariants as fault
 use Rattle.bz_engine.specs.declared.session.SessionState.{SessionState}
 use Rattle.bz_engine.specs.declared.session.SessionState.TheVariants.{Going, Ended, Stopped}
-use Rattle.bz_devices.specs.Ahead.{Ahead, IsReadOn, IsNextChunk}
-use Rattle.bz_devices.proofs.ReadOn.{read_then}
+use Rattle.bz_devices.specs.Ahead.{Ahead, IsNextChunk}
 use Rattle.bz_engine.specs.Progress.{Progress}
 use Rattle.bz_engine.specs.declared.next_chunk.NextChunk.{NextChunk}
-use Rattle.bz_engine.specs.declared.next_chunk.First.{First}
-use Rattle.bz_engine.specs.declared.next_chunk.First.TheVariants.{Edited, Short, Other}
 use Rattle.bz_engine.specs.private.Edits.{EditsChunk}
-use Rattle.bz_engine.specs.private.NextChunks.{IsFirstEdited, IsNextEdited, IsFirstNext}
-use Rattle.bz_engine.specs.SessionValue.{SessionValue, run_in, IsSameRun}
+use Rattle.bz_engine.specs.private.NextChunks.{IsFirstEdited, IsNextEdited}
+use Rattle.bz_engine.specs.SessionValue.{SessionValue, run_in}
 
 abbrev is_going : SessionState → Bool
 is_going Going = true
@@ -48,38 +44,9 @@ is_stop fault.InputTooLong = false
 is_stop (fault.StatementTooLong line) = false
 is_stop fault.Stopped = true
 
--- a session that was stopped tells no other fault
-pub stopped_alone : {T X : Type 0} (r : Result T RunFault) (e : RunFault) → is_stop e ≡ false → r ≡ Err fault.Stopped → r ≡ Err e → X
-stopped_alone r e other stopped told = absurd (false≢true (sym other ∙ ap is_stop (sym (err_is fault.Stopped e (sym stopped ∙ told)))))
-
-abbrev is_write : RunFault → Bool
-is_write (fault.OutOfMemory _) = false
-is_write fault.ReadFailed = false
-is_write fault.WriteFailed = true
-is_write fault.InputTooLong = false
-is_write (fault.StatementTooLong line) = false
-is_write fault.Stopped = false
-
--- nor a write that failed
-pub unwritten_alone : {T X : Type 0} (r : Result T RunFault) (e : RunFault) → is_write e ≡ false → r ≡ Err fault.WriteFailed → r ≡ Err e → X
-unwritten_alone r e other failed told = absurd (false≢true (sym other ∙ ap is_write (sym (err_is fault.WriteFailed e (sym failed ∙ told)))))
-
 -- a fault is no answer
 pub err_on_ok : {T E : Type 0} (P : Type 0) (r : Result T E) (e : E) → r ≡ Err e → OnOk r P
 err_on_ok P r e is = subst (λ s. OnOk s P) (sym is) tt
-
--- the next chunk was read, or done
-pub same_run : (u v w : SessionValue) (ahead : Ahead) (progress : Progress) → v ≡ u
-    → (let after : SessionValue = record v { ahead = ahead; progress = progress } in w ≡ after) → IsSameRun u w
-same_run u v w ahead progress same is = record {
-  home = ap (λ x. x.home) is ∙ ap (λ x. x.home) same;
-  passes = ap (λ x. x.passes) is ∙ ap (λ x. x.passes) same;
-  options = ap (λ x. x.options) is ∙ ap (λ x. x.options) same;
-}
-
-pub same_state : (u v w : SessionValue) (ahead : Ahead) (progress : Progress) → v ≡ u
-    → (let after : SessionValue = record v { ahead = ahead; progress = progress } in w ≡ after) → w.state ≡ u.state
-same_state u v w ahead progress same is = ap (λ x. x.state) is ∙ ap (λ x. x.state) same
 
 pub err_if_ok : {T E : Type 0} (P : T → Type 0) (r : Result T E) (e : E) → r ≡ Err e → IfOk r P
 err_if_ok P r e is = subst (λ s. IfOk s P) (sym is) tt
@@ -123,19 +90,6 @@ next_edited v i w mid before following next read is chunk lines edited =
     (sym (ap (λ x. x.ahead) (is ∙ ap edits read)))
     (subst (λ x. IsFirstEdited (run_in x) x.options.max_statement mid x.progress w.progress before following next) read first)
 
--- more was read after these reads, and nothing else was done
-pub read_also : (v l w x : SessionValue) (mid : Ahead) (xs ys : List (List ℕ)) → (let after : SessionValue = record v { ahead = l.ahead } in l ≡ after)
-    → (let after : SessionValue = record l { progress = w.progress } in w ≡ after) → x ≡ w → IsReadOn v.options.max_reads v.ahead l.ahead xs → IsReadOn x.options.max_reads x.ahead mid ys
-    → IsReadOn v.options.max_reads v.ahead mid (xs ++ ys)
-read_also v l w x mid xs ys same is there first second =
-    let here : IsReadOn l.options.max_reads l.ahead mid ys = subst (λ y. IsReadOn y.options.max_reads y.ahead mid ys) (there ∙ is) second in
-    read_then v.options.max_reads v.ahead l.ahead mid xs ys first (subst (λ o. IsReadOn o.max_reads l.ahead mid ys) (ap (λ y. y.options) same) here)
-
--- it has the same options
-pub options_on : (v l w x : SessionValue) → (let after : SessionValue = record v { ahead = l.ahead } in l ≡ after)
-    → (let after : SessionValue = record l { progress = w.progress } in w ≡ after) → x ≡ w → x.options ≡ v.options
-options_on v l w x same is there = ap (λ y. y.options) (there ∙ is) ∙ ap (λ y. y.options) same
-
 -- and is as before, but for what is ahead
 pub read_alone : (v l w x : SessionValue) (mid : Ahead) → (let after : SessionValue = record v { ahead = l.ahead } in l ≡ after)
     → (let after : SessionValue = record l { progress = w.progress } in w ≡ after) → w.progress ≡ l.progress → x ≡ w
@@ -144,10 +98,3 @@ read_alone v l w x mid same is progress there =
     let reads : SessionValue → SessionValue = λ y. record y { ahead = mid } in
     let at : Progress → SessionValue = λ p. record l { progress = p } in
     ap reads (there ∙ is ∙ ap at progress ∙ same)
-
--- nothing was done of the first chunk ahead
-pub passed_over : (old new : SessionValue) (before after : List ℕ) (first : First) → IsFirstNext old new before after first
-    → ((next : NextChunk) → first ≢ Edited next) → new.progress ≡ old.progress
-passed_over old new before after (Edited next) is other = absurd (other next refl)
-passed_over old new before after Short is other = is.0
-passed_over old new before after Other is other = is.0

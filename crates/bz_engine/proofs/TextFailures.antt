@@ -4,8 +4,8 @@ use Rattle.std.specs.Prelude.{None, Some, codes, if◌then◌else◌, is_some, o
 use Rattle.bz_tree.specs.Tree.{Segment, Statement}
 use Rattle.bz_label.specs.Labels.{Package}
 use Rattle.bz_label.specs.declared.arguments.Commented.TheVariants.{Attribute, Value}
-use Rattle.bz_label.specs.declared.arguments.Field.{Field}
-use Rattle.bz_label.specs.declared.arguments.Field.TheVariants.{ValueOf}
+use Rattle.bz_rule.specs.declared.commands.field.Field.{Field}
+use Rattle.bz_rule.specs.declared.commands.field.Field.TheVariants.{ValueOf}
 use Rattle.bz_attribute.specs.declared.done.Done.{Done}
 use Rattle.bz_attribute.specs.declared.done.Note.TheVariants.{Missing, NoAttribute}
 use Rattle.bz_rule.specs.Comment.{comment_note}

@@ -1,11 +1,12 @@
--- What targets mark and what commands do to the statement in a slot, and what is told of it: the language of passes over BUILD files.
--- Begin with `meaning`, `changes` and `fails_on`.
--- Of later stops: 5 `Command`, `after`, `done_of`, `fails`.
+-- What targets mark and what commands do to the statement in a slot, and what is told of it: the language of passes over BUILD
+-- files (buildozer README; what is told is this project's own rule).
+-- Begin with `meaning`.
+-- Of later stops: 5 `Command`, `after`, `note_of`, `printed_line`.
 use Rattle.std.specs.Prelude.{ℕ, Bool, false, List, [], ◌∷◌, ◌++◌, Option, None, Some, map, option_to_list}
 use Rattle.bz_token.specs.Common.{map_or}
 use Rattle.bz_tree.specs.Tree.{Statement}
 use Rattle.bz_label.specs.Labels.{Package, Target, must_mark}
-use Rattle.bz_rule.specs.Commands.{Command, after, done_of}
+use Rattle.bz_rule.specs.Commands.{Command, after, note_of, printed_line, done_of}
 use Rattle.bz_attribute.specs.Marks.{marks}
 use Rattle.bz_attribute.specs.Texts.{shown_text}
 use Rattle.bz_attribute.specs.Effects.{fails}
@@ -22,7 +23,8 @@ note_told rule None = []
 note_told rule (Some (Missing field)) = Warning (note_text rule (Missing field)) ∷ []
 note_told rule (Some note) = Failure (note_text rule note) ∷ []
 
--- an empty slot is never marked; the rule is shown as the command finds it
+-- The language. An empty slot is never marked. A command says the line that it prints, and then its note, with the rule shown as
+-- the command finds it.
 abbrev pub meaning : Package → Meaning Statement Target Command Entry
 meaning home = record {
   marks = λ target slot. map_or false (marks target) slot;
@@ -30,11 +32,11 @@ meaning home = record {
   not_found = λ target. Failure (not_found_text home target);
   after = λ command slot. after command home slot;
   says = λ command slot.
-      let done = done_of command home slot in
-      map Line (option_to_list done.line) ++ note_told (map_or [] (shown_text home) slot) done.note;
+      map Line (option_to_list (printed_line command home slot))
+      ++ note_told (map_or [] (shown_text home) slot) (note_of command home slot);
 }
 
--- whether the command makes the slot another than it was
+-- whether the command says that it makes the slot another than it was
 abbrev pub changes : Package → Command → Slot Statement → Bool
 changes home command slot = (done_of command home slot).changed
 

@@ -1,4 +1,3 @@
-pub mod Changes
 pub mod Progress
 pub mod SessionValue
 pub mod SessionSteps
@@ -9,4 +8,5 @@ pub mod Messages
 pub mod Outcome
 pub mod NeededReads
 pub mod Stops
+pub mod Scripts
 pub mod private

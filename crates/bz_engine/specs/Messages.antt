@@ -22,7 +22,7 @@ note_text rule (Missing attr) = rule ++ codes ": no attribute '" ++ attr ++ code
 note_text rule (NoAttribute attr) = rule ++ codes ": no attribute '" ++ attr ++ codes "'"
 note_text rule (AttributeExists attr) = rule ++ codes ": attribute '" ++ attr ++ codes "' is already there"
 note_text rule (NotAList attr) = rule ++ codes ": attribute '" ++ attr ++ codes "' has no list"
-note_text rule (NoValue attr value) = rule ++ codes ": no value '" ++ value ++ codes "' in attribute '" ++ attr ++ codes "'"
+note_text rule (NoValue a v) = rule ++ codes ": no value '" ++ v ++ codes "' in attribute '" ++ a ++ codes "'"
 
 -- a fault at a line and a column
 abbrev pub placed : ℕ → ℕ → List ℕ → List ℕ
@@ -32,6 +32,7 @@ placed line col what = decimal line ++ codes ":" ++ decimal col ++ codes ": " ++
 abbrev pub lined : ℕ → List ℕ → List ℕ
 lined line what = decimal line ++ codes ": " ++ what
 
+-- The texts of faults. `OutOfMemory` is the fault of no file: `IsAnswerOf` and `IsFaultIn` (stop 7) leave it out.
 abbrev pub lex_text : LexFault → List ℕ
 lex_text (OutOfMemory _) = codes "out of memory"
 lex_text (BadCharacter line col) = placed line col (codes "bad character")

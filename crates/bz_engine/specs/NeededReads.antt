@@ -12,8 +12,8 @@ use Rattle.bz_engine.specs.declared.options.Options.{Options}
 use Rattle.bz_engine.specs.File.{AreStatementsOf}
 use Rattle.bz_engine.specs.Outcome.{Script, Run, run_with, some_failure}
 
--- Reads gave these pieces. Each file that begins with them (where their end was met, that file) begins with these chunks, the first
--- on line 1, which have these statements and do not end the run; these bytes are left of the pieces.
+-- Reads gave these pieces. Each file that begins with them (where their end was met, that file) begins with these chunks, the
+-- `front`, the first on line 1. They have these statements and do not end the run. These bytes are left of the pieces.
 pub record AreDone (run : Run) (pieces front : List (List ℕ)) (statements : List Statement) (left : List ℕ) : Type 0 where
   pub bytes_are : concat pieces ≡ concat front ++ left
   pub chunks_are : (rest : List ℕ) → (IsTrue (ends pieces) → rest ≡ []) → chunks (concat pieces ++ rest) ≡ front ++ chunks (left ++ rest)

@@ -1,9 +1,9 @@
 -- What a run over a file gives: the passes one after another on the whole list of its statements, and the result laid out.
 -- Begin with `IsOutcome`.
--- Of later stops: 4 `Package`, `Statement`, `Target`, `changes`, `fails_on`, `fault_text`, `meaning`; 5 `Command`,
--- `is_print`; 6 `gap_text`, `layout_text`, `lines_between`; 7 `AreStatementsOf`, `IsFile`; 8 `chunks`.
-use Rattle.std.specs.Prelude.{◌≡◌, ◌⊎◌, ℕ, Bool, true, false, ◌||◌, if◌then◌else◌, List, [], ◌∷◌, ◌++◌, map, Option, None, Some, take, filter_map}
+-- Of later stops: 4 `Package`, `Statement`, `Target`, `fault_text`, `meaning`; 5 `Command`, `is_print`; 6 `gap_text`, `layout_text`, `lines_between`; 7 `AreStatementsOf`, `IsFile`; 8 `chunks`.
+use Rattle.std.specs.Prelude.{◌≡◌, ◌⊎◌, ◌↔◌, ℕ, Bool, true, false, not, if◌then◌else◌, List, [], ◌∷◌, ◌++◌, map, Option, None, Some, take, filter_map}
 use Rattle.std.specs.List.{list_all, flat_map}
+use Rattle.bz_token.specs.Common.{is_empty}
 use Rattle.bz_token.specs.Chunks.{chunks}
 use Rattle.bz_tree.specs.Tree.{Statement}
 use Rattle.bz_layout.specs.Layout.{layout_text}
@@ -16,9 +16,9 @@ use Rattle.bz_engine.specs.declared.report.SyntaxFault.{SyntaxFault}
 use Rattle.bz_engine.specs.declared.report.End.{End}
 use Rattle.bz_engine.specs.declared.report.End.TheVariants.{Whole, Syntax, FirstFailure}
 use Rattle.bz_engine.specs.declared.report.Report.{Report}
-use Rattle.bz_passes.specs.Passes.{Meaning, Pass, Slot, marked, log_of_commands, slots_after_pass, slots_after, log_of, some_execution, some_missing}
+use Rattle.bz_passes.specs.Passes.{Pass, Slot, slots_after, executions_of, said, Changes, log_of}
 use Rattle.bz_engine.specs.Messages.{fault_text}
-use Rattle.bz_engine.specs.Language.{meaning, changes, fails_on}
+use Rattle.bz_engine.specs.Language.{meaning}
 use Rattle.bz_engine.specs.File.{AreStatementsOf, IsFile}
 
 abbrev pub Script : Type 0
@@ -52,9 +52,17 @@ text_of [] = []
 text_of (s ∷ []) = layout_text s
 text_of (s ∷ t ∷ ss) = layout_text s ++ (gap_text (lines_between s.class t.class) ++ text_of (t ∷ ss))
 
--- the text of the statements as the script left them; none for a query
-abbrev pub text_after : Package → Script → List Statement → List ℕ
-text_after home passes statements = if is_query passes then [] else text_of (left_in (slots_after (meaning home) passes (slots_of statements)))
+module _ (home : Package) (ps : Script) (ss : List Statement) where
+  -- the text of the statements as the script left them; none for a query
+  abbrev pub text_after : List ℕ
+  text_after = if is_query ps then [] else text_of (left_in (slots_after (meaning home) ps (slots_of ss)))
+
+  -- what is said by executions that fail on these statements
+  abbrev pub failures : List (List ℕ)
+  failures = flat_map failure_text (said (meaning home) (executions_of (meaning home) ps (slots_of ss)))
+
+  abbrev pub some_failure : Bool
+  some_failure = not (is_empty failures)
 
 -- what a run tells beside its text
 pub record Told : Type 0 where
@@ -64,38 +72,21 @@ pub record Told : Type 0 where
   pub failed : Bool
   pub end : End
 
--- whether some execution changed the statement that it found, and whether some failed there
-abbrev pub some_change : Package → Script → List Statement → Bool
-some_change home passes statements = some_execution (meaning home) (changes home) passes (slots_of statements)
-
-abbrev pub some_failure : Package → Script → List Statement → Bool
-some_failure home passes statements = some_execution (meaning home) (fails_on home) passes (slots_of statements)
-
 -- what is told of a run that a fault or a failure ended: only these messages, and no line
 abbrev pub cut_short : List (List ℕ) → Bool → End → Told
-cut_short messages changed end = record { lines = []; messages = messages; changed = changed; failed = true; end = end }
+cut_short ms changed end = record { lines = []; messages = ms; changed = changed; failed = true; end = end }
 
--- what is told of a file without fault: the whole log; a fault of the file is the only message
-abbrev pub told_of : Package → Script → List Statement → Option SyntaxFault → Told
-told_of home passes ss None = record {
-  lines = flat_map line_text (log_of (meaning home) passes (slots_of ss));
-  messages = flat_map message_text (log_of (meaning home) passes (slots_of ss));
-  changed = some_change home passes ss;
-  failed = some_failure home passes ss || some_missing (meaning home) passes (slots_of ss);
-  end = Whole;
-}
-told_of home passes ss (Some fault) = cut_short (fault_text fault ∷ []) (some_change home passes ss) (Syntax fault)
-
--- what the commands say, without what is said of a target that marks nothing
-abbrev pub said : {S T C M : Type 0} → Meaning S T C M → List (Pass T C) → List (Slot S) → List M
-said m [] slots = []
-said m (p ∷ ps) slots = log_of_commands m p.commands (map (marked m p.target) slots) ++ said m ps (slots_after_pass m p slots)
+-- what is told of a file that was read to its end: the log; a fault of the file is the only message
+abbrev pub told_of : Package → Script → List Statement → Option SyntaxFault → Bool → Told
+told_of home passes ss None changed =
+    let log = log_of (meaning home) passes (slots_of ss) in
+    let failed = not (is_empty (flat_map failure_text log)) in
+    record { lines = flat_map line_text log; messages = flat_map message_text log; changed = changed; failed = failed; end = Whole }
+told_of home passes ss (Some fault) changed = cut_short (fault_text fault ∷ []) changed (Syntax fault)
 
 -- what is told where the run ends at a statement: the first failure there, in pass and command order, is the only message
-abbrev pub told_of_failure : Package → Script → List Statement → Statement → Told
-told_of_failure home passes before s =
-    let failures = flat_map failure_text (said (meaning home) passes (slots_of (s ∷ []))) in
-    cut_short (take 1 failures) (some_change home passes before) FirstFailure
+abbrev pub told_of_failure : Package → Script → Statement → Bool → Told
+told_of_failure home ps s changed = cut_short (take 1 (failures home ps (s ∷ []))) changed FirstFailure
 
 abbrev pub told_by : Report → Told
 told_by r = record { lines = r.lines; messages = r.messages; changed = r.changed; failed = r.failed; end = r.end }
@@ -114,7 +105,8 @@ pub record IsWholeRun (run : Run) (file text : List ℕ) (told : Told) : Type 0 
   pub read : IsFile run.max_depth file statements fault
   pub calm : run.keep_going ≡ false → some_failure run.home run.passes statements ≡ false
   pub text_is : text ≡ text_after run.home run.passes statements
-  pub told_is : told ≡ told_of run.home run.passes statements fault
+  pub changed : (told.changed ≡ true) ↔ Changes (meaning run.home) run.passes (slots_of statements)
+  pub told_is : told ≡ told_of run.home run.passes statements fault told.changed
 
 -- The run ends at the first statement on which an execution fails: what stands before it is edited and written.
 pub record EndsAtFailure (run : Run) (file text : List ℕ) (told : Told) : Type 0 where
@@ -125,7 +117,8 @@ pub record EndsAtFailure (run : Run) (file text : List ℕ) (told : Told) : Type
   pub calm : some_failure run.home run.passes before ≡ false
   pub fails : some_failure run.home run.passes (statement ∷ []) ≡ true
   pub text_is : text ≡ text_after run.home run.passes before
-  pub told_is : told ≡ told_of_failure run.home run.passes before statement
+  pub changed : (told.changed ≡ true) ↔ Changes (meaning run.home) run.passes (slots_of before)
+  pub told_is : told ≡ told_of_failure run.home run.passes statement told.changed
 
 -- these bytes begin those
 abbrev pub IsFrontOf : List ℕ → List ℕ → Type 0

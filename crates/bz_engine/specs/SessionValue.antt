@@ -18,6 +18,7 @@ use Rattle.bz_engine.specs.Language.{meaning}
 use Rattle.bz_engine.specs.Messages.{fault_text}
 use Rattle.bz_engine.specs.Outcome.{Script, Run, run_with, Told, IsOutcome, text_after}
 use Rattle.bz_engine.specs.NeededReads.{AreNeededAfter}
+use Rattle.bz_engine.specs.Scripts.{AreCommands}
 use Rattle.bz_engine.specs.Stops.{EndsAfter}
 use Rattle.bz_passes.specs.Entries.{line_text, message_text}
 
@@ -105,3 +106,4 @@ pub record IsSession (v : SessionValue) : Type 0 where
   pub made : v.ahead.reads ≤ v.options.max_reads
   pub ready : v.state ≡ Going → IsReady v
   pub fits : (end : End) → v.state ≡ Ended end → Fits v.progress.kept v.passes
+  pub commands : AreCommands v.passes

@@ -26,10 +26,10 @@ pub record ComesNext (max_statement : ℕ) (pieces cs : List (List ℕ)) (chunk 
 -- Where the run ends, these chunks are done, and no other was looked at but the one that ends it: the file has no other; or the
 -- next one has this fault, or an execution fails on its statement.
 abbrev pub EndsAfter : Run → ℕ → List (List ℕ) → List (List ℕ) → End → Type 0
-EndsAfter run max_statement pieces cs Whole = ForEveryFile pieces (λ file. chunks file ≡ cs)
-EndsAfter run max_statement pieces cs (Syntax fault) = (chunk : List ℕ) × ComesNext max_statement pieces cs chunk
+EndsAfter run most pieces cs Whole = ForEveryFile pieces (λ file. chunks file ≡ cs)
+EndsAfter run most pieces cs (Syntax fault) = (chunk : List ℕ) × ComesNext most pieces cs chunk
     × IsAnswerOf run.max_depth (line_at 1 (concat cs)) chunk (Err fault)
-EndsAfter run max_statement pieces cs FirstFailure = (chunk : List ℕ) × ComesNext max_statement pieces cs chunk
+EndsAfter run most pieces cs FirstFailure = (chunk : List ℕ) × ComesNext most pieces cs chunk
     × (s : Statement) × IsAnswerOf run.max_depth (line_at 1 (concat cs)) chunk (Ok (Some s))
     × (some_failure run.home run.passes (s ∷ []) ≡ true)
 
@@ -58,7 +58,7 @@ Tells options line ahead (OutOfMemory _) = ⊤
 Tells options line ahead ReadFailed = NeedsRead options.max_statement ahead
 Tells options line ahead WriteFailed = (n : ℕ) × IsNextChunk options.max_statement ahead n
 -- All the reads that may be made were made, and another is needed.
-Tells options line ahead InputTooLong = (ahead.reads ≡ options.max_reads) × NeedsRead options.max_statement ahead
+Tells options _ ahead InputTooLong = (ahead.reads ≡ options.max_reads) × NeedsRead options.max_statement ahead
 -- The next chunk has more bytes than it may.
 Tells options line ahead (StatementTooLong at) = (at ≡ line) × IsTooLong options.max_statement ahead
 Tells options line ahead Stopped = ⊥

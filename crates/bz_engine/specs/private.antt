@@ -3,6 +3,7 @@ pub mod ChunkRead
 pub mod Edits
 pub mod Named
 pub mod Rows
+pub mod Sealed
 pub mod NextChunks
 pub mod Finds
 pub mod Found

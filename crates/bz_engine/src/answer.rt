@@ -85,7 +85,7 @@ fn printed_by_name<'t>(
 pub(crate) fn is_without(found: &Found<'_>, attr: &str) -> bool
     ensures { IsTrue result → (depth : ℕ) (s : Statement) → IsFound depth found.now s → IsWithout attr.now s }
 {
-    match found.chunk.place {
+    match found.place {
         Some(place) => found.attr == attr && place.lines.is_empty(),
         None => false,
     }
@@ -98,11 +98,8 @@ pub(crate) fn marks_found(target: &Target, found: &Found<'_>) -> bool
     if let Some(name) = found.chunk.name {
         return marks_name(target, name);
     }
-    // What has a kind or a place for arguments is a rule.
-    if let Some(_) = found.chunk.kind {
-        return marks_rules(target);
-    }
-    match found.chunk.place {
+    // What has a kind is a rule.
+    match found.chunk.kind {
         Some(_) => marks_rules(target),
         None => false,
     }

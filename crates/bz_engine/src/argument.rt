@@ -1,25 +1,22 @@
-//! What a command makes of the lines of an argument, by a small rule that has this argument alone. `marked_rule.rt`
-//! calls `execute_on_lines` for a rule of which it edits one argument.
+//! What a command makes of the lines of an argument, which is not read. `marked_rule.rt` calls `execute_on_lines` for a
+//! rule of which it edits one argument.
 
-ghost use Rattle.std.specs.Prelude.{◌≡◌, ◌++◌, ◌∷◌, ℕ, List, [], codes, string_bytes, IfOk, IfSome, IsTrue, OnOk, Some};
+ghost use Rattle.std.specs.Prelude.{◌≡◌, ◌++◌, ◌∷◌, [], IfOk, IfSome, IsTrue, OnOk};
 ghost use Rattle.bz_canonical.specs.Added.{LacksInLines};
-ghost use Rattle.bz_canonical.specs.Canonical.{argument_lines, between, read_alone, small_text};
-ghost use Rattle.bz_rule.specs.OneAttribute.{one_attribute};
+ghost use Rattle.bz_canonical.specs.Canonical.{argument_lines, between, read_alone};
 ghost use Rattle.bz_label.specs.declared.arguments.Attributes.TheVariants.{Named};
 ghost use Rattle.bz_label.specs.declared.arguments.Commented.TheVariants.{Attribute};
 ghost use Rattle.bz_rule.specs.declared.command.Action.TheVariants.{Add, Comment, Remove, Replace};
-ghost use Rattle.bz_engine.specs.private.ArgumentEdits.{AddsArgument, AreLinesAfter, EditsLines, EditsList, EditsPlace, EditsSmallRule, list_argument};
+ghost use Rattle.bz_engine.specs.private.ArgumentEdits.{AddsArgument, EditsLines, EditsList, EditsPlace, list_argument};
 
 use crate::edit::ScriptRun;
-use crate::spare::Spare;
 use bz_attribute::Env;
 use bz_canonical::{ArgumentPlace, EditedList, lacks, put_added, put_removed, put_replaced};
 use bz_label::quote;
-use bz_memory::{NoMemory, extend_from_slice, push_str};
+use bz_memory::{NoMemory, extend_from_slice};
+use bz_rule::Command;
 use bz_rule::commands::argument::put_argument;
 use bz_rule::forms::{ListValue, ReplacedValue, added_by, removed_by, replaced_by, set_by};
-use bz_rule::{Command, Done, StatementRow, execute};
-use bz_tree::read_text;
 use std::alloc::Global;
 
 /// What a command makes of an argument.
@@ -30,12 +27,7 @@ pub(crate) enum EditedArgument<'s> {
     Lines(&'s [u8]),
 }
 
-// The small rule before its argument and after it: the comment keeps the rule on lines.
-const BEFORE: &str = "k(";
-
-const AFTER: &str = "\n    #\n)\n";
-
-// More bytes are not read alone: they are not worth a copy.
+// More bytes are not worth a copy.
 const LONGEST: usize = 1 << 16;
 
 /// Whether the argument of this place has many lines, which are not worth a copy.
@@ -71,25 +63,21 @@ pub(crate) fn execute_on_lines<'s>(
     script: ScriptRun<'_>,
     command: &Command,
     lines: &str,
-    spare: &'s mut Spare,
+    laid: &'s mut Vec<u8>,
 ) -> Result<Option<EditedArgument<'s>>, NoMemory>
-    requires { (attr : List ℕ) × (one_attribute command.now ≡ Some attr) }
-    ensures { IfOk result (λ known. IfSome known (EditsLines script.entry.max_depth command.now script.entry.home.now lines.now)) }
+    ensures { IfOk result (λ known. IfSome known
+        (EditsLines script.entry.max_depth command.now script.entry.home.now lines.now)) }
 {
-    spare.laid.clear();
-    match execute_on_list(script, command, lines, &mut spare.laid)? {
+    laid.clear();
+    match execute_on_list(script, command, lines, laid)? {
         Some(EditedList::Unchanged) => return Ok(Some(EditedArgument::Unchanged)),
-        Some(EditedList::Written) => return Ok(Some(EditedArgument::Lines(spare.laid.as_slice()))),
+        Some(EditedList::Written) => return Ok(Some(EditedArgument::Lines(laid.as_slice()))),
         None => {}
     }
-    if lines.is_empty() && put_new(script.alloc, command, &mut spare.laid)? {
-        return Ok(Some(EditedArgument::Lines(spare.laid.as_slice())));
+    if lines.is_empty() && put_new(script.alloc, command, laid)? {
+        return Ok(Some(EditedArgument::Lines(laid.as_slice())));
     }
-    if lines.len() > LONGEST {
-        return Ok(None);
-    }
-    put_small_rule(lines, &mut spare.small)?;
-    execute_on_small_rule(script, command, spare)
+    Ok(None)
 }
 
 /// What the command makes of the argument that has these lines, where it adds one value to a list of strings, removes
@@ -120,7 +108,8 @@ fn execute_on_list(
     }
 }
 
-/// The same of a value that is removed.
+/// What `remove` of one value makes of the argument that has these lines. None: it is no list of strings that can be
+/// edited on its lines. Without `Written` nothing is said of the buffer's bytes.
 fn execute_remove(
     script: ScriptRun<'_>,
     old: ListValue<'_>,
@@ -131,13 +120,14 @@ fn execute_remove(
         (Remove (Named old.entry.attr.now) (old.entry.value.now ∷ []))
         (read_alone script.entry.max_depth script.entry.home.now lines.now) written.old.items written.new.items)) }
 {
-    if is_short_without(script, old, lines) {
+    if lacks_in_few_lines(script, old, lines) {
         return Ok(Some(EditedList::Unchanged));
     }
     put_removed(script.home, lines, old, script.max_depth, written)
 }
 
-/// The same of a value that becomes another.
+/// What `replace` of one value makes of the argument that has these lines. None: it is no list of strings that can be
+/// edited on its lines. Without `Written` nothing is said of the buffer's bytes.
 fn execute_replace(
     script: ScriptRun<'_>,
     replaced: ReplacedValue<'_>,
@@ -152,7 +142,7 @@ fn execute_replace(
         attr: replaced.attr,
         value: replaced.old,
     };
-    if is_short_without(script, old, lines) {
+    if lacks_in_few_lines(script, old, lines) {
         return Ok(Some(EditedList::Unchanged));
     }
     let env = Env {
@@ -164,7 +154,7 @@ fn execute_replace(
 
 /// These lines are few, and have a list that lacks the value. Most lists lack it, and of these nothing has to be
 /// written; a long one is gone over once.
-fn is_short_without(script: ScriptRun<'_>, sought: ListValue<'_>, lines: &str) -> bool
+fn lacks_in_few_lines(script: ScriptRun<'_>, sought: ListValue<'_>, lines: &str) -> bool
     ensures { IsTrue result
         → LacksInLines (read_alone script.entry.max_depth script.entry.home.now lines.now) sought.entry }
 {
@@ -183,7 +173,8 @@ fn put_new(alloc: Global, command: &Command, lines: &mut Vec<u8>) -> Result<bool
     Ok(true)
 }
 
-/// The same of `set`.
+/// The lines of the argument that `set` or `set_if_absent` adds where none has its name. False: the command is another,
+/// or they are not easily written.
 fn put_set(alloc: Global, command: &Command, lines: &mut Vec<u8>) -> Result<bool, NoMemory>
     ensures { IfOk result (λ put. IsTrue put → AddsArgument command.now lines.new.items) }
 {
@@ -206,86 +197,4 @@ fn put_list(alloc: Global, new: ListValue<'_>, out: &mut Vec<u8>) -> Result<(), 
     extend_from_slice(out, value.as_bytes())?;
     extend_from_slice(out, b"],")?;
     Ok(())
-}
-
-/// Executes the command on the small rule in the buffer.
-fn execute_on_small_rule<'s>(
-    script: ScriptRun<'_>,
-    command: &Command,
-    spare: &'s mut Spare,
-) -> Result<Option<EditedArgument<'s>>, NoMemory>
-    requires { (attr : List ℕ) × (one_attribute command.now ≡ Some attr) }
-    ensures { IfOk result (λ known. IfSome known (EditsSmallRule script.entry.max_depth command.now
-        script.entry.home.now (string_bytes spare.old.small))) }
-{
-    if spare.small.len() > 2 * LONGEST {
-        return Ok(None);
-    }
-    let Ok(Some(row)) = read_text(
-        script.alloc,
-        script.bump,
-        spare.small.as_str(),
-        1,
-        script.max_depth,
-    ) else {
-        return Ok(None);
-    };
-    let env = Env {
-        alloc: script.alloc,
-        home: script.home,
-    };
-    let mut slot = Some(StatementRow::of_row(script.alloc, script.bump, row)?);
-    let done = execute(env, command, &mut slot)?;
-    lines_after(&done, &slot, &mut spare.laid)
-}
-
-/// The small rule that has the argument of these lines alone.
-fn put_small_rule(lines: &str, text: &mut String) -> Result<(), NoMemory>
-    ensures { OnOk result (string_bytes text.new ≡ small_text lines.now) }
-{
-    text.clear();
-    push_str(text, BEFORE)?;
-    push_str(text, lines)?;
-    push_str(text, AFTER)?;
-    Ok(())
-}
-
-/// What was made of the argument of the small rule that is in the slot now. None: more is told of it than that it
-/// changed, or nothing is left of it.
-fn lines_after<'s>(
-    done: &Done,
-    slot: &Option<StatementRow<'_>>,
-    text: &'s mut Vec<u8>,
-) -> Result<Option<EditedArgument<'s>>, NoMemory>
-    ensures { IfOk result (λ known. IfSome known (AreLinesAfter done.now slot.now)) }
-{
-    if done.note.is_some() || done.line.is_some() {
-        return Ok(None);
-    }
-    if !done.changed {
-        return Ok(Some(EditedArgument::Unchanged));
-    }
-    let Some(stmt) = slot else {
-        return Ok(None);
-    };
-    text.clear();
-    stmt.put(text)?;
-    let Some(lines) = argument_of(text.as_slice()) else {
-        return Ok(None);
-    };
-    Ok(Some(EditedArgument::Lines(lines)))
-}
-
-/// The lines of the argument in the text of a small rule. None: it has none.
-fn argument_of(text: &[u8]) -> Option<&[u8]>
-    ensures some { IfSome result (λ lines. lines.now ≡ [] → ⊥) }
-    ensures lines { IfSome result (λ lines. (new : List ℕ) → text.now ≡ small_text new → lines.now ≡ new) }
-{
-    let (_, rest) = text.split_at_checked(BEFORE.len())?;
-    let len = rest.len().checked_sub(AFTER.len())?;
-    let (lines, _) = rest.split_at_checked(len)?;
-    if lines.is_empty() {
-        return None;
-    }
-    Some(lines)
 }

@@ -1,30 +1,38 @@
 //! Chunks of which it is known what would be written without reading them, of statements that the script leaves as they
-//! are, or of which it edits one argument: they are copied. `next_chunk.rt` asks here first, of the first chunk of the
-//! text ahead (`copy_canonical`) and of one that was found line by line (`copy_whole`), and reads what is left.
+//! are, of which it edits one argument, or does not see some arguments (`sealed.rt`): what it leaves is copied.
+//! `next_chunk.rt` asks here first, of the first chunk of the text ahead (`copy_canonical`) and of one that was found
+//! line by line (`copy_whole`), and reads what is left.
 
-ghost use Rattle.std.specs.Prelude.{◌≡◌, ◌+◌, ◌<◌, ◌≤◌, ◌^◌, Some, [], length, option_map, IfOk, OnOk, IfSome, IfNone, IsTrue};
+ghost use Rattle.std.specs.Prelude.{◌≡◌, ◌+◌, ◌<◌, ◌≤◌, ◌^◌, ◌==◌, ℕ, Some, count_by, length, option_map, IfOk, OnOk, IfSome, IfNone, IsTrue};
 ghost use Rattle.bz_tree.specs.Tree.{Statement};
-ghost use Rattle.bz_canonical.specs.Canonical.{HasName, IsCanonical, between};
+ghost use Rattle.bz_canonical.specs.Canonical.{HasName, HasPlace, IsCanonical, between};
+ghost use Rattle.bz_canonical.specs.Spans.{HasSpans};
 ghost use Rattle.bz_passes.specs.Exchange.{Fits, IsPassedBy};
 ghost use Rattle.bz_devices.specs.Ahead.{IsFewAfter};
 ghost use Rattle.bz_engine.specs.Language.{meaning, changes, fails_on};
 ghost use Rattle.bz_engine.specs.private.Edits.{DoesNothing, EditsWhole, run_of};
-ghost use Rattle.bz_engine.specs.private.Found.{IsFound, IsForOne};
+ghost use Rattle.bz_engine.specs.private.Found.{HasItsSpans, IsFound, IsForOne};
 ghost use Rattle.bz_engine.specs.private.Named.{IsNamePassedBy};
-ghost use Rattle.bz_engine.specs.private.NextChunks.{EditsFound, IsFirstEdited, IsKnownEdited, done_chunk};
+ghost use Rattle.bz_engine.specs.private.NextChunks.{EditsFound, IsFirstEdited, IsKnownEdited, ScriptsFound};
 ghost use Rattle.bz_engine.specs.private.Rows.{HasKey};
+ghost use Rattle.bz_engine.specs.private.Sealed.{asked_names};
 
 use crate::answer::{marks_found, unchanged_by_text};
-use crate::edit::ScriptRun;
+use crate::chunk::newlines;
+use crate::edit::{Edited, ScriptRun, Scripted, edited_of};
 use crate::failure::message_by_text;
 use crate::marked_rule::{MarkedRule, edit_marked};
+use crate::next_chunk::NextChunk;
 use crate::progress::Progress;
 use crate::rule_passes::OnePass;
 use crate::rules::Rules;
-use crate::spare::ChunkBuffers;
+use crate::sealed::edit_sealed;
 use crate::written::put_canonical;
 use bz_attribute::Env;
-use bz_canonical::{AsksOfRules, CanonicalChunk, Lookup, read_canonical};
+use bz_canonical::{
+    ArgumentPlace, ArgumentSpan, AsksOfRules, CanonicalChunk, SpannedRule, argument_place,
+    read_canonical,
+};
 use bz_devices::ahead::Ahead;
 use bz_label::Text;
 use bz_memory::NoMemory;
@@ -32,140 +40,233 @@ use bz_passes::index::Key;
 use bz_passes::script::{only_pass, passes_by};
 use bz_tree::Class;
 
-/// Runs the script on the first chunk of the text ahead, where what would be written of it and what the script makes of
-/// its statement are known without it: it is copied. None, with nothing done: it is to be read.
+/// Runs the script on the first chunk of the text ahead, where what would be written of it is known without its
+/// statement, and what the script makes of that too, or its arguments that the script does not see stand in known
+/// places. None, with nothing done: it is to be read.
 #[inline(always)]
 pub(crate) fn copy_canonical(
     ahead: &Ahead,
     script: ScriptRun<'_>,
     progress: &mut Progress,
     text: &mut Vec<u8>,
-) -> Result<Option<usize>, NoMemory>
+) -> Result<Option<NextChunk>, NoMemory>
     requires few { IsFewAfter ahead.now }
     requires fits { Fits progress.old.kept script.passes.now }
     requires lines { progress.old.line + length ahead.now.bytes < 2 ^ 64 }
     ensures fits { OnOk result (Fits progress.new.kept script.entry.passes.now) }
-    ensures chunk { IfOk result (λ found. IfSome found (λ len. IsFirstEdited (run_of script.entry)
-        script.entry.max_statement ahead.now progress.old progress.new text.old.items text.new.items (done_chunk len))) }
-    ensures none { IfOk result (λ found. IfNone found
+    ensures chunk { IfOk result (λ next. IfSome next (IsFirstEdited (run_of script.entry)
+        script.entry.max_statement ahead.now progress.old progress.new text.old.items text.new.items)) }
+    ensures none { IfOk result (λ next. IfNone next
         (DoesNothing progress.old progress.new text.old.items text.new.items)) }
 {
     if !script.passes.may_be_known() || !progress.is_worth_a_look() {
         return Ok(None);
     }
     let mut buffers = progress.take_buffers(script.alloc);
-    match find_canonical(script, ahead.text(), script.max_statement, &mut buffers)? {
+    match find_canonical(
+        script,
+        ahead.text(),
+        script.max_statement,
+        &mut buffers.written,
+        &mut buffers.spans,
+    )? {
         None => {
             progress.give_back_buffers(buffers);
             progress.fail_look();
             Ok(None)
         }
         Some(found) => {
-            let len = copy_known(script, found, progress, text)?;
+            let next = copy_known(script, found, progress, text)?;
             progress.give_back_buffers(buffers);
-            Ok(len)
+            Ok(next)
         }
     }
 }
 
-/// Runs the script on a chunk that was found line by line, where the same is known of it. False, with nothing done: it
+/// Runs the script on a chunk that was found line by line, where the same is known of it. None, with nothing done: it
 /// is to be read.
 pub(crate) fn copy_whole(
     script: ScriptRun<'_>,
     chunk: &str,
     progress: &mut Progress,
     text: &mut Vec<u8>,
-) -> Result<bool, NoMemory>
+) -> Result<Option<Edited>, NoMemory>
     requires fits { Fits progress.old.kept script.passes.now }
     requires lines { progress.old.line + length chunk.now < 2 ^ 64 }
     ensures { IfOk result (EditsWhole (run_of script.entry) chunk.now progress.old progress.new
         text.old.items text.new.items) }
 {
     if !script.passes.may_be_known() {
-        return Ok(false);
+        return Ok(None);
     }
     let mut buffers = progress.take_buffers(script.alloc);
-    match find_canonical(script, chunk, u64::MAX, &mut buffers)? {
+    match find_canonical(
+        script,
+        chunk,
+        u64::MAX,
+        &mut buffers.written,
+        &mut buffers.spans,
+    )? {
         Some(found) if found.chunk.chunk.len() == chunk.len() => {
-            let len = copy_known(script, found, progress, text)?;
+            let next = copy_known(script, found, progress, text)?;
             progress.give_back_buffers(buffers);
-            Ok(len.is_some())
+            Ok(edited_in(next))
         }
         _ => {
             progress.give_back_buffers(buffers);
-            Ok(false)
+            Ok(None)
         }
     }
 }
 
-/// Runs the script on the statement of a chunk that was found, for both calls above: no pass marks it, or `copy_marked`
-/// knows what is made of it. `text` is the buffer for what is written of the chunk. None, with nothing done: the chunk
-/// is to be read.
+fn edited_in(next: Option<NextChunk>) -> Option<Edited>
+    ensures { result ≡ option_map (λ next. next.edited) next }
+{
+    match next {
+        None => None,
+        Some(next) => Some(next.edited),
+    }
+}
+
+/// Runs the script on the chunk that was found, for both calls above. `text` is the buffer for what is written of it.
+/// None, with nothing done: the chunk is to be read.
 #[inline(always)]
 fn copy_known(
     script: ScriptRun<'_>,
     found: Found<'_>,
     progress: &mut Progress,
     text: &mut Vec<u8>,
-) -> Result<Option<usize>, NoMemory>
+) -> Result<Option<NextChunk>, NoMemory>
     requires fits { Fits progress.old.kept script.passes.now }
     requires lines { progress.old.line + length found.chunk.chunk.now < 2 ^ 64 }
     requires left { IsTrue found.chunk.left → IsNamePassedBy script.home.now script.passes.now
         (option_map (λ name. name.now) found.chunk.name) }
+    requires spans { HasItsSpans script.max_depth script.passes.now found }
     ensures fits { OnOk result (Fits progress.new.kept script.entry.passes.now) }
-    ensures chunk { IfOk result (λ len. IfSome len (IsKnownEdited (run_of script.entry) found.entry
+    ensures chunk { IfOk result (λ next. IfSome next (IsKnownEdited (run_of script.entry) found.entry
         progress.old progress.new text.old.items text.new.items)) }
-    ensures none { IfOk result (λ len. IfNone len
+    ensures none { IfOk result (λ next. IfNone next
         (DoesNothing progress.old progress.new text.old.items text.new.items)) }
 {
-    if is_passed_by(script, &found) {
-        put_canonical(script, found.chunk, progress, text)?;
-    } else if !copy_marked(script, &found, progress, text)? {
+    let lines = newlines(found.chunk.chunk.as_bytes());
+    let Some(scripted) = script_known(script, &found, lines, progress, text)? else {
         progress.fail_look();
         return Ok(None);
-    }
+    };
     progress.succeed_look();
-    progress.pass_lines(found.chunk.chunk.as_bytes());
-    Ok(Some(found.chunk.chunk.len()))
+    progress.pass(lines);
+    Ok(Some(NextChunk {
+        len: found.chunk.chunk.len(),
+        edited: edited_of(scripted),
+    }))
 }
 
-/// A chunk of which it is known what would be written, and the attribute whose argument was looked for in it.
+/// Runs the script on the statement of a chunk that was found, by the first of these: no pass marks it, `copy_marked`
+/// knows what is made of it, or the script does not see some of its arguments. The chunk has so many lines. None, with
+/// nothing done: it is to be read.
+#[inline(always)]
+fn script_known(
+    script: ScriptRun<'_>,
+    found: &Found<'_>,
+    lines: u64,
+    progress: &mut Progress,
+    text: &mut Vec<u8>,
+) -> Result<Option<Scripted>, NoMemory>
+    requires fits { Fits progress.old.kept script.passes.now }
+    requires fitting { progress.old.line + length found.now.chunk.chunk.now < 2 ^ 64 }
+    requires lines { lines ≡ count_by (λ b. b == 10) found.now.chunk.chunk.now }
+    requires left { IsTrue found.now.chunk.left → IsNamePassedBy script.home.now script.passes.now
+        (option_map (λ name. name.now) found.now.chunk.name) }
+    requires spans { HasItsSpans script.max_depth script.passes.now found.now }
+    ensures { IfOk result (ScriptsFound (run_of script.entry) found.now progress.old progress.new
+        text.old.items text.new.items) }
+{
+    if is_passed_by(script, found) {
+        put_canonical(script, found.chunk, progress, text)?;
+        return Ok(Some(Scripted::Done));
+    }
+    if copy_marked(script, found, progress, text)? {
+        return Ok(Some(Scripted::Done));
+    }
+    if found.chunk.noted {
+        return edit_sealed(script, found, lines, progress, text);
+    }
+    Ok(None)
+}
+
+/// A chunk of which it is known what would be written, and the argument that was looked for in it.
 #[derive(Clone, Copy)]
 pub(crate) struct Found<'a> {
     pub(crate) chunk: CanonicalChunk<'a>,
+    /// The name of the argument.
     pub(crate) attr: &'a str,
+    /// Where it stands, or would stand. None: it is not known.
+    pub(crate) place: Option<ArgumentPlace<'a>>,
+    /// Where all arguments stand, if that was noted.
+    pub(crate) spans: &'a [ArgumentSpan],
 }
 
 /// The chunk that the text begins with, where it is known what would be written of it, and it is not too long.
 #[inline(always)]
-fn find_canonical<'a>(
+fn find_canonical<'a, 'b: 'a>(
     script: ScriptRun<'a>,
     text: &'a str,
     max_statement: u64,
-    buffers: &'a mut ChunkBuffers,
+    written: &'a mut Vec<u8>,
+    spans: &'b mut Vec<ArgumentSpan>,
 ) -> Result<Option<Found<'a>>, NoMemory>
-    ensures canonical { IfOk result (λ known. IfSome known (λ found. IsCanonical script.entry.max_depth found.attr.now
+    ensures canonical { IfOk result (λ known. IfSome known (λ found. IsCanonical script.entry.max_depth
         found.chunk.class (option_map (λ name. name.now) found.chunk.name)
-        (option_map (λ kind. kind.now) found.chunk.kind) (option_map between found.chunk.place)
-        found.chunk.chunk.now found.chunk.written.now text.now)) }
+        (option_map (λ kind. kind.now) found.chunk.kind) found.chunk.chunk.now found.chunk.written.now text.now)) }
     ensures size { IfOk result (λ known. IfSome known (λ found. length found.chunk.chunk.now ≤ max_statement)) }
     ensures left { IfOk result (λ known. IfSome known (λ found. IsTrue found.chunk.left
         → IsNamePassedBy script.entry.home.now script.entry.passes.now
         (option_map (λ name. name.now) found.chunk.name))) }
+    ensures spans { IfOk result (λ known. IfSome known (HasItsSpans script.entry.max_depth script.entry.passes.now)) }
 {
-    let attr = script.passes.attr();
-    let ChunkBuffers { written, spans } = buffers;
-    let asked = Lookup {
-        attr,
-        rules: &script,
-    };
-    let Some(chunk) = read_canonical(text, asked, script.max_depth, written, spans)? else {
+    let Some(chunk) = read_canonical(text, &script, script.max_depth, written, spans)? else {
         return Ok(None);
     };
     if chunk.chunk.len() as u64 > max_statement {
         return Ok(None);
     }
-    Ok(Some(Found { chunk, attr }))
+    Ok(Some(with_place(script, chunk, spans.as_slice())))
+}
+
+/// A chunk whose arguments have these spans, if that was noted, with the place of the one that the script looks for.
+#[inline(always)]
+fn with_place<'a>(
+    script: ScriptRun<'a>,
+    chunk: CanonicalChunk<'a>,
+    spans: &'a [ArgumentSpan],
+) -> Found<'a>
+    ensures chunk { result.chunk ≡ chunk.entry }
+    ensures spans { result.spans.now ≡ spans.now }
+    ensures place { IfSome result.place (λ place. IsTrue chunk.entry.noted × ((first depth : ℕ) (s : Statement)
+        → HasSpans first depth (asked_names script.entry.passes.now) s chunk.entry.chunk.now chunk.entry.written.now
+        spans.now → HasPlace depth result.attr.now s (between place))) }
+{
+    let unplaced = Found {
+        chunk,
+        attr: "",
+        place: None,
+        spans,
+    };
+    if !chunk.noted {
+        return unplaced;
+    }
+    let Some(asked) = script.passes.asked_attribute() else {
+        return unplaced;
+    };
+    let rule = SpannedRule {
+        written: chunk.written,
+        spans,
+    };
+    Found {
+        attr: asked.name,
+        place: argument_place(chunk.chunk, rule, asked.at),
+        ..unplaced
+    }
 }
 
 /// Runs the script on the statement of such a chunk, by the first of these: the one command leaves it as it is, tells a
@@ -239,10 +340,11 @@ fn is_passed_by(script: ScriptRun<'_>, found: &Found<'_>) -> bool
 
 impl AsksOfRules for ScriptRun<'_> {
     ghost use Rattle.bz_engine.specs.private.Named.{IsNamePassedBy};
+    ghost use Rattle.bz_engine.specs.private.Sealed.{asked_names};
 
     ghost leaves = { λ script name. IsNamePassedBy script.home.now script.passes.now name };
 
-    ghost names = { λ script. [] };
+    ghost names = { λ script. asked_names script.passes.now };
 
     fn asks_of(&self, name: Option<&str>) -> bool {
         !is_name_passed_by(*self, name)
@@ -250,7 +352,7 @@ impl AsksOfRules for ScriptRun<'_> {
 
     #[inline(always)]
     fn names(&self) -> &[Text] {
-        &[]
+        self.passes.names()
     }
 }
 

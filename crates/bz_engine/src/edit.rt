@@ -60,7 +60,7 @@ pub(crate) enum Scripted {
 }
 
 /// What the script made of the chunk of a statement.
-fn edited_of(scripted: Scripted) -> Edited
+pub(crate) fn edited_of(scripted: Scripted) -> Edited
     ensures { result ≡ edited_of scripted }
 {
     match scripted {
@@ -123,7 +123,7 @@ fn edit_row<'a>(
 }
 
 /// Runs the script on what is in a slot.
-fn edit_slot<'a>(
+pub(crate) fn edit_slot<'a>(
     script: ScriptRun<'a>,
     slot: &mut Option<StatementRow<'a>>,
     progress: &mut Progress,

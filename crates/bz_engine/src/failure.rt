@@ -2,7 +2,7 @@
 
 ghost use Rattle.std.specs.Prelude.{◌≡◌, ◌∷◌, ◌++◌, [], codes, IfOk, IfSome, IsTrue, Some};
 ghost use Rattle.bz_attribute.specs.Texts.{home_text};
-ghost use Rattle.bz_label.specs.declared.arguments.Field.TheVariants.{ValueOf};
+ghost use Rattle.bz_rule.specs.declared.commands.field.Field.TheVariants.{ValueOf};
 ghost use Rattle.bz_rule.specs.declared.command.Action.TheVariants.{Print};
 ghost use Rattle.bz_attribute.specs.declared.done.Note.TheVariants.{NoAttribute};
 ghost use Rattle.bz_engine.specs.Language.{note_told};
@@ -13,11 +13,11 @@ use crate::canonical::Found;
 use crate::edit::ScriptRun;
 use crate::message::{missing_name, note_text};
 use bz_attribute::push_home;
-use bz_label::{Field, Package};
+use bz_label::Package;
 use bz_memory::{NoMemory, push_str};
 use bz_passes::entry::Entry;
 use bz_rule::forms::{needed, printed_by};
-use bz_rule::{Command, Note, Text};
+use bz_rule::{Command, Field, Note, Text};
 use bz_token::check_utf8;
 use std::alloc::Global;
 
@@ -127,7 +127,8 @@ fn failure_by_text(
 
 /// What is told of a rule of this name that has no such attribute.
 fn no_attribute(alloc: Global, home: &Package, name: &str, attr: &str) -> Result<Entry, NoMemory>
-    ensures { IfOk result (λ entry. entry ∷ [] ≡ note_told (home_text home.now ++ name.now) (Some (NoAttribute attr.now))) }
+    ensures { IfOk result
+        (λ entry. entry ∷ [] ≡ note_told (home_text home.now ++ name.now) (Some (NoAttribute attr.now))) }
 {
     let mut rule = String::new(alloc);
     push_home(&mut rule, home)?;

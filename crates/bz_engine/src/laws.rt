@@ -4,8 +4,9 @@ ghost use Rattle.std.specs.Prelude.{◌≡◌, ◌↔◌, ℕ, List, [], Bool, R
 ghost use Rattle.bz_tree.specs.Tree.{Statement};
 ghost use Rattle.bz_label.specs.Labels.{Package, Target};
 ghost use Rattle.bz_rule.specs.Commands.{Command};
-ghost use Rattle.bz_passes.specs.Passes.{Pass, Slot, some_execution};
-ghost use Rattle.bz_engine.specs.Changes.{AreCommands, Changes};
+ghost use Rattle.bz_passes.specs.Passes.{Pass, Slot, Changes};
+ghost use Rattle.bz_passes.specs.Exchange.{some_execution};
+ghost use Rattle.bz_engine.specs.Scripts.{AreCommands};
 ghost use Rattle.bz_engine.specs.File.{IsAnswerOf, IsFile};
 ghost use Rattle.bz_engine.specs.Outcome.{Script, Run, Told, IsOutcome};
 ghost use Rattle.bz_engine.specs.SessionValue.{HasDone, at_start};
@@ -13,8 +14,8 @@ ghost use Rattle.bz_engine.specs.declared.options.Options.{Options};
 ghost use Rattle.bz_engine.specs.declared.report.SyntaxFault.{SyntaxFault};
 ghost use Rattle.bz_engine.specs.Language.{meaning, changes};
 
-/// A run tells that it changed something exactly where some command of the script, when it ran, left some statement
-/// different from what it found.
+/// Some command tells that it changed something, as `apply` of bz_rule does, exactly where some command of the script,
+/// when it ran, left something else in its slot than it found: so a run tells of changes.
 pub fn changed_is_a_difference()
     ensures { (home : Package) (ps : List (Pass Target Command)) (slots : List (Slot Statement)) → AreCommands ps
         → (some_execution (meaning home) (changes home) ps slots ≡ true) ↔ Changes (meaning home) ps slots }

@@ -76,7 +76,7 @@ impl Looks {
         self.pause = SHORTEST_PAUSE;
     }
 
-    /// The same of a chunk at which there was no look yet.
+    /// A chunk begins, at which there was no look yet. Whether the bytes ahead seem to end before it does.
     pub(crate) fn begins_short(&mut self, bytes: &[u8]) -> bool {
         self.asked = false;
         self.is_likely_short(bytes)

@@ -52,7 +52,7 @@ pub(crate) fn edit_marked(
     if let Some(comment) = comment_by(only.command) {
         return put_comment(script, marked, comment, progress, text);
     }
-    if is_long(found.chunk.place) {
+    if is_long(found.place) {
         return edit_long_argument(script, marked, progress, text);
     }
     edit_argument(script, marked, progress, text)
@@ -91,7 +91,7 @@ fn put_comment(
     Ok(true)
 }
 
-/// The same of an argument of many lines: what the command makes of these is written where it is to stand.
+/// The one command edits an argument of many lines: what it makes of these is written where it is to stand.
 fn edit_long_argument(
     script: ScriptRun<'_>,
     marked: MarkedRule<'_>,
@@ -132,7 +132,7 @@ fn edit_long_argument(
     }
 }
 
-/// The same of another argument.
+/// The one command edits an argument of few lines, in a buffer of their own.
 fn edit_argument(
     script: ScriptRun<'_>,
     marked: MarkedRule<'_>,
@@ -149,7 +149,7 @@ fn edit_argument(
         return Ok(false);
     };
     let mut spare = progress.take_spare(script.alloc);
-    match execute_on_lines(script, only.command, place.lines, &mut spare)? {
+    match execute_on_lines(script, only.command, place.lines, &mut spare.laid)? {
         None => {
             progress.give_back(spare);
             Ok(false)
@@ -178,7 +178,7 @@ fn edit_argument(
 /// The place of the argument that the command looks at alone. None also for the name where a pass comes after: that may
 /// mark the rule by its new one.
 fn place_for<'a>(only: OnePass<'_>, found: &Found<'a>) -> Option<ArgumentPlace<'a>>
-    ensures place { IfSome result (λ place. found.now.chunk.place ≡ Some place) }
+    ensures place { IfSome result (λ place. found.now.place ≡ Some place) }
     ensures attr { IfSome result (λ _. one_attribute only.entry.command.now ≡ Some found.now.attr.now) }
     ensures name { IfSome result (λ _. only.entry.last ≡ false
         → bytes_eq found.now.attr.now (codes "name") ≡ false) }
@@ -187,7 +187,7 @@ fn place_for<'a>(only: OnePass<'_>, found: &Found<'a>) -> Option<ArgumentPlace<'
     if attr != found.attr || (attr == "name" && !only.last) {
         return None;
     }
-    found.chunk.place
+    found.place
 }
 
 /// A rule with other lines in the place of an argument.
@@ -207,7 +207,8 @@ impl Changed<'_> {
         progress: &mut Progress,
         text: &mut Vec<u8>,
     ) -> Result<(), NoMemory>
-        ensures last { OnOk result (progress.new ≡ record progress.old { last = Some self.entry.class; changed = true }) }
+        ensures last { OnOk result
+            (progress.new ≡ record progress.old { last = Some self.entry.class; changed = true }) }
         ensures text { OnOk result ((s : Statement) → s.class ≡ self.entry.class
             → layout_text s ≡ self.entry.before.now ++ (self.entry.lines.now ++ self.entry.after.now)
             → text.new.items ≡ text.old.items

@@ -1,12 +1,12 @@
 //! The script on the chunk that is found next.
 
-ghost use Rattle.std.specs.Prelude.{◌≡◌, ◌+◌, ◌<◌, ◌≤◌, ◌^◌, length, map, IfOk, OnOk};
+ghost use Rattle.std.specs.Prelude.{◌≡◌, ◌+◌, ◌<◌, ◌≤◌, ◌^◌, length, map, IfNone, IfOk, IfSome, OnOk};
 ghost use Rattle.bz_token.specs.Places.{placed};
 ghost use Rattle.bz_token.specs.Reading.{AreTokensOf};
 ghost use Rattle.bz_devices.specs.Ahead.{IsFewAfter};
 ghost use Rattle.bz_passes.specs.Exchange.{Fits};
-ghost use Rattle.bz_engine.specs.private.Edits.{EditsChunk, run_of};
-ghost use Rattle.bz_engine.specs.private.NextChunks.{IsFirst, done_chunk};
+ghost use Rattle.bz_engine.specs.private.Edits.{DoesNothing, EditsChunk, run_of};
+ghost use Rattle.bz_engine.specs.private.NextChunks.{IsFirstEdited};
 
 use crate::canonical::copy_whole;
 use crate::chunk::not_utf8;
@@ -14,11 +14,11 @@ use crate::edit::{Edited, ScriptRun, edit_chunk};
 use crate::progress::Progress;
 use bz_devices::ahead::Ahead;
 use bz_memory::NoMemory;
-use bz_token::{Front, Token, check_utf8, first_chunk};
+use bz_token::{Token, check_utf8, first_chunk};
 use bz_tree::{read_statement, read_text};
 
-/// The next chunk, on which the script was run and which is not yet taken. In this order, and with `First::Edited` as
-/// the last, what is copied at once was stored at once: else the processor waits.
+/// The next chunk, on which the script was run and which is not yet taken. In this order what is copied at once was
+/// stored at once: else the processor waits.
 #[derive(Drop)]
 pub(crate) struct NextChunk {
     pub(crate) edited: Edited,
@@ -26,54 +26,33 @@ pub(crate) struct NextChunk {
     pub(crate) len: usize,
 }
 
-/// What is answered of a chunk of so many bytes that is done.
-pub(crate) fn done_chunk(len: usize) -> NextChunk
-    ensures { result ≡ done_chunk len }
-{
-    NextChunk {
-        len,
-        edited: Edited::Done,
-    }
-}
-
-/// What is done of the first chunk of the text ahead.
-#[derive(Drop)]
-pub(crate) enum First {
-    /// Nothing: the text ahead ends before it does.
-    Short,
-    /// Nothing: it is to be found in another way.
-    Other,
-    /// The script was run on it, and it is not yet taken.
-    Edited(NextChunk),
-}
-
 /// Runs the script on the first chunk of the text ahead, which is read by the tokens that were made to find its end.
-/// Nothing is done where the text does not show where it ends, where it has a fault, is a block, or is too long.
+/// None, with nothing done: the text does not show where it ends, it has a fault, is a block, or is too long.
 pub(crate) fn edit_first(
     ahead: &Ahead,
     script: ScriptRun<'_>,
     progress: &mut Progress,
     text: &mut Vec<u8>,
-) -> Result<First, NoMemory>
+) -> Result<Option<NextChunk>, NoMemory>
     requires few { IsFewAfter ahead.now }
     requires fits { Fits progress.old.kept script.passes.now }
     requires lines { progress.old.line + length ahead.now.bytes < 2 ^ 64 }
     ensures fits { OnOk result (Fits progress.new.kept script.entry.passes.now) }
-    ensures first { IfOk result (IsFirst (run_of script.entry) script.entry.max_statement ahead.now
-        progress.old progress.new text.old.items text.new.items) }
+    ensures chunk { IfOk result (λ next. IfSome next (IsFirstEdited (run_of script.entry)
+        script.entry.max_statement ahead.now progress.old progress.new text.old.items text.new.items)) }
+    ensures none { IfOk result (λ next. IfNone next
+        (DoesNothing progress.old progress.new text.old.items text.new.items)) }
 {
     let text_ahead = ahead.text();
-    let chunk = match first_chunk(script.bump, text_ahead, progress.line, script.max_depth)? {
-        Front::Chunk(chunk) => chunk,
-        Front::Short => return Ok(First::Short),
-        Front::Other => return Ok(First::Other),
+    let Some(chunk) = first_chunk(script.bump, text_ahead, progress.line, script.max_depth)? else {
+        return Ok(None);
     };
     let len = chunk.text.len();
     if len as u64 > script.max_statement {
-        return Ok(First::Other);
+        return Ok(None);
     }
     let edited = edit_tokens(script, chunk.text, chunk.tokens, progress, text)?;
-    Ok(First::Edited(NextChunk { len, edited }))
+    Ok(Some(NextChunk { len, edited }))
 }
 
 /// Runs the script on the chunk that has these tokens.
@@ -116,8 +95,8 @@ pub(crate) fn edit_bytes(
         Ok(whole) => whole,
         Err(valid) => return Ok(Edited::Faulty(not_utf8(line, &chunk[..valid]))),
     };
-    if copy_whole(script, whole, progress, text)? {
-        return Ok(Edited::Done);
+    if let Some(edited) = copy_whole(script, whole, progress, text)? {
+        return Ok(edited);
     }
     let read = read_text(script.alloc, script.bump, whole, line, script.max_depth);
     edit_chunk(script, whole, read, progress, text)

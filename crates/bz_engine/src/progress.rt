@@ -38,6 +38,8 @@ pub(crate) struct Progress {
     pub(crate) spare: Spare,
     /// Contracts do not see these either.
     pub(crate) buffers: ChunkBuffers,
+    /// Lists of sealed rules stand in the arena. Contracts do not see it either.
+    pub(crate) lists: bool,
 }
 
 impl Model for Progress {
@@ -61,6 +63,7 @@ impl Progress {
             looks: _,
             spare,
             buffers,
+            lists: _,
         } = self;
         spare.held().saturating_add(buffers.held())
     }
@@ -71,6 +74,14 @@ impl Progress {
         ensures { self.new ≡ record self.old { line = line_at self.old.line chunk.now } }
     {
         self.line += newlines(chunk);
+    }
+
+    /// So many lines are passed.
+    pub(crate) fn pass(&mut self, lines: u64)
+        requires { self.old.line + lines < 2 ^ 64 }
+        ensures { self.new ≡ record self.old { line = self.old.line + lines } }
+    {
+        self.line += lines;
     }
 
     /// The one command of the pass at this position ran on one statement more, and this line was told of it.
@@ -122,6 +133,20 @@ impl Progress {
         self.buffers = buffers;
     }
 
+    /// The lists of a sealed rule are to stand in the arena.
+    pub(crate) fn begin_lists(&mut self)
+        ensures { self.new ≡ self.old }
+    {
+        self.lists = true;
+    }
+
+    /// Whether there are such lists: they are given up then.
+    pub(crate) fn end_lists(&mut self) -> bool
+        ensures { self.new ≡ self.old }
+    {
+        mem::replace(&mut self.lists, false)
+    }
+
     /// Whether to see if it is known what would be written of the next chunk.
     pub(crate) fn is_worth_a_look(&mut self) -> bool
         ensures { self.new ≡ self.old }
@@ -143,7 +168,7 @@ impl Progress {
         self.looks.succeed();
     }
 
-    /// The same of a chunk at which there was no look yet.
+    /// A chunk begins, at which there was no look yet. Whether the bytes ahead seem to end before it does.
     pub(crate) fn begins_short(&mut self, ahead: &[u8]) -> bool
         ensures { self.new ≡ self.old }
     {
@@ -157,7 +182,7 @@ impl Progress {
         self.looks.is_likely_short(ahead)
     }
 
-    /// They did not.
+    /// A chunk ended in the bytes ahead that seemed not to.
     pub(crate) fn end_ahead(&mut self)
         ensures { self.new ≡ self.old }
     {

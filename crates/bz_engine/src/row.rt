@@ -1,9 +1,9 @@
-//! Statements that the script passes by: they are laid out by their rows.
+//! Statements that the script passes by: they are written as they are, and no command runs on them.
 
-ghost use Rattle.std.specs.Prelude.{◌≡◌, Some, IsTrue};
+ghost use Rattle.std.specs.Prelude.{◌≡◌, Some, IsTrue, true};
 ghost use Rattle.bz_tree.specs.Tree.{Statement};
 ghost use Rattle.bz_passes.specs.Exchange.{IsPassedBy};
-ghost use Rattle.bz_attribute.specs.Heads.{HasHead};
+ghost use Rattle.bz_attribute.specs.Heads.{HasHead, IsHeadOf};
 ghost use Rattle.bz_engine.specs.Language.{meaning, changes, fails_on};
 ghost use Rattle.bz_engine.specs.private.Rows as spec;
 
@@ -11,7 +11,12 @@ use crate::edit::ScriptRun;
 use crate::rules::Rules;
 use bz_attribute::Head;
 use bz_passes::index::Key;
+use bz_passes::pass::Pass;
 use bz_passes::script::passes_by;
+use bz_rule::{Command, Target};
+
+// In a script of so many passes at most each target is compared with the head.
+const MOST: usize = 8;
 
 /// No pass of the script may mark the statement of this head.
 pub(crate) fn is_passed_by(script: ScriptRun<'_>, head: Option<Head<'_>>) -> bool
@@ -20,13 +25,35 @@ pub(crate) fn is_passed_by(script: ScriptRun<'_>, head: Option<Head<'_>>) -> boo
         script.entry.passes.now (Some s) }
 {
     if !script.passes.ask_for_names() {
-        return false;
+        return none_marks(script.passes.as_slice(), head);
     }
     let rules = Rules {
         alloc: script.alloc,
         home: script.home,
     };
     passes_by(&rules, script.passes.indexed(), head_key(head))
+}
+
+/// The passes are few, and none marks the rule of this head.
+fn none_marks(passes: &[Pass<Target, Command>], head: Option<Head<'_>>) -> bool
+    ensures { IsTrue result → (s : Statement) → HasHead head.entry s → spec.none_marks passes.now s ≡ true }
+{
+    match head {
+        Some(head) if passes.len() <= MOST => is_unmarked(passes, head),
+        _ => false,
+    }
+}
+
+/// No target of the passes marks the rule of this head.
+fn is_unmarked(passes: &[Pass<Target, Command>], head: Head<'_>) -> bool
+    ensures { IsTrue result → (s : Statement) → IsHeadOf head.entry s → spec.none_marks passes.now s ≡ true }
+{
+    for pass in passes {
+        if head.is_marked_by(&pass.target) {
+            return false;
+        }
+    }
+    true
 }
 
 /// What a head says of the name of its statement.

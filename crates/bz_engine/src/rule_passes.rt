@@ -1,13 +1,17 @@
 //! The passes of a script over rules, with what is asked of them at each statement.
 
-ghost use Rattle.std.specs.Prelude.{◌≡◌, ◌+◌, ◌<◌, false, get_or, length, IfOk, IfSome};
-ghost use Rattle.std.specs.List.{list_all};
-ghost use Rattle.bz_rule.specs.Commands.{is_print};
+ghost use Rattle.std.specs.Prelude.{◌≡◌, ◌+◌, ◌<◌, false, true, bytes_eq, get_or, length, IfOk, IfSome, Some};
+ghost use Rattle.std.specs.List.{list_all, position};
+ghost use Rattle.bz_rule.specs.Commands.{is_command, is_print};
 ghost use Rattle.bz_engine.specs.Outcome as spec;
+ghost use Rattle.bz_engine.specs.Scripts.{AreCommands};
 ghost use Rattle.bz_engine.specs.private.Found.{one_pass};
 ghost use Rattle.bz_engine.specs.private.Named.{all_named};
+ghost use Rattle.bz_engine.specs.private.Sealed.{asked_names};
 
 use crate::answer::{asked_attribute, is_answerable};
+use crate::names::{asked_names, position_of};
+use bz_label::Text;
 use bz_memory::{NoMemory, from_str};
 use bz_passes::pass::Pass;
 use bz_passes::passes::{Keyed, Passes};
@@ -24,8 +28,18 @@ pub(crate) struct RulePasses {
     named: bool,
     /// What the script makes of some statements may be known without them.
     may_be_known: bool,
+    /// The attributes that the commands mention, and `name`. None: they may look at others too.
+    names: Vec<Text>,
     /// The attribute that the one command of the first pass looks at. Empty: there is none.
     attr: String,
+}
+
+/// The attribute whose argument is looked for in a rule.
+#[derive(Clone, Copy)]
+pub(crate) struct AskedAttribute<'p> {
+    pub(crate) name: &'p str,
+    /// Its position among the names.
+    pub(crate) at: usize,
 }
 
 /// A pass of one command.
@@ -43,12 +57,14 @@ impl Model for RulePasses {
     ghost use Rattle.std.specs.Prelude.{◌≡◌};
     ghost use Rattle.bz_engine.specs.Outcome as spec;
     ghost use Rattle.bz_engine.specs.private.Named.{all_named};
+    ghost use Rattle.bz_engine.specs.private.Sealed.{asked_names};
 
     ghost Value = { spec.Script };
 
     ghost view = { λ s. s.passes };
 
-    ghost invariant = { λ s. (s.query ≡ spec.is_query s.passes) × (s.named ≡ all_named s.passes) };
+    ghost invariant = { λ s. (s.query ≡ spec.is_query s.passes) × (s.named ≡ all_named s.passes)
+        × (s.names.items ≡ asked_names s.passes) };
 }
 
 impl RulePasses {
@@ -57,11 +73,14 @@ impl RulePasses {
         alloc: Global,
         passes: Vec<Pass<Target, Command>>,
     ) -> Result<RulePasses, NoMemory>
-        ensures { IfOk result (λ made. made ≡ passes.items) }
+        ensures made { IfOk result (λ made. made ≡ passes.items) }
+        ensures commands { AreCommands passes.items }
     {
+        are_read(passes.as_slice());
         let query = is_query(passes.as_slice());
         let named = all_named(passes.as_slice());
-        let may_be_known = named || is_one_answerable(passes.as_slice());
+        let names = asked_names(alloc, passes.as_slice())?;
+        let may_be_known = named || !names.is_empty() || is_one_answerable(passes.as_slice());
         let attr = from_str(alloc, first_attribute(passes.as_slice()))?;
         let passes = Passes::new(alloc, passes)?;
         Ok(RulePasses {
@@ -69,6 +88,7 @@ impl RulePasses {
             query,
             named,
             may_be_known,
+            names,
             attr,
         })
     }
@@ -120,15 +140,28 @@ impl RulePasses {
         self.named
     }
 
-    /// Whether what the script makes of some statements may be known without them: each target asks for a name, or
-    /// there is one command, which may be answered from a text (`is_answerable` of `answer.rt`).
+    /// Whether what the script makes of some statements may be known without them, or without arguments that it does
+    /// not see: each target asks for a name, it is known what the commands mention, or there is one command, which may
+    /// be answered from a text (`is_answerable` of `answer.rt`).
     pub(crate) fn may_be_known(&self) -> bool {
         self.may_be_known
     }
 
-    /// The name of the argument whose place is to be looked for in a text. Empty: there is none.
-    pub(crate) fn attr(&self) -> &str {
-        self.attr.as_str()
+    /// The attributes that the commands mention, and `name`. None: they may look at others too.
+    pub(crate) fn names(&self) -> &[Text]
+        ensures { result.now ≡ asked_names self.now }
+    {
+        self.names.as_slice()
+    }
+
+    /// The attribute whose argument is to be looked for in a rule. None: there is none.
+    pub(crate) fn asked_attribute(&self) -> Option<AskedAttribute<'_>>
+        ensures { IfSome result (λ asked. position (λ name. bytes_eq name asked.name.now) (asked_names self.now)
+            ≡ Some asked.at) }
+    {
+        let name = self.attr.as_str();
+        let at = position_of(self.names.as_slice(), name)?;
+        Some(AskedAttribute { name, at })
     }
 }
 
@@ -160,6 +193,24 @@ fn first_attribute(passes: &[Pass<Target, Command>]) -> &str {
     }
 }
 
+/// Law: each command of a script is one that can be read. The body looks at each, since of that the prover knows it; it
+/// does nothing else.
+fn are_read(passes: &[Pass<Target, Command>])
+    ensures { AreCommands passes.now }
+{
+    for pass in passes {
+        are_commands(pass.commands.as_slice());
+    }
+}
+
+fn are_commands(commands: &[Command])
+    ensures { list_all is_command commands.now ≡ true }
+{
+    for command in commands {
+        command.is_read();
+    }
+}
+
 /// Whether all commands of a script print: then it only asks, and no text is written.
 pub fn is_query(passes: &[Pass<Target, Command>]) -> bool
     ensures { result ≡ spec.is_query passes.now }
@@ -172,7 +223,7 @@ pub fn is_query(passes: &[Pass<Target, Command>]) -> bool
     true
 }
 
-fn all_named(passes: &[Pass<Target, Command>]) -> bool
+pub(crate) fn all_named(passes: &[Pass<Target, Command>]) -> bool
     ensures { result ≡ all_named passes.now }
 {
     for pass in passes {

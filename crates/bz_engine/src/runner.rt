@@ -1,13 +1,11 @@
 //! A run from a source to a sink.
 
 ghost use Rattle.std.specs.Prelude.{◌≡◌, ◌≢◌, ℕ, ◌≤◌, ◌^◌, List, length, IfOk, IfErr, IsErrOf};
-ghost use Rattle.bz_devices.specs.Ahead.{HasTooLong};
 ghost use Rattle.bz_devices.specs.Device.{Rises};
 ghost use Rattle.bz_engine.specs.EveryFile.{ForEveryFile};
 ghost use Rattle.bz_engine.specs.NeededReads.{AreReads, IsOneNeeded};
 ghost use Rattle.bz_engine.specs.Stops.{HasEndedAt, HasStopped};
 ghost use Rattle.bz_engine.specs.Outcome.{Told, run_with, IsOutcome, IsFrontOf, told_by};
-ghost use Rattle.std.specs.List.{concat};
 
 use crate::options::Options;
 use crate::report::Report;
@@ -35,14 +33,17 @@ pub fn run<S: Source, W: Sink>(
     // appended and the report are the outcome of the passes over its statements. Each read was needed, and no chunk was
     // looked at but those that are done and the one that ended the run.
     ensures outcome { IfOk result (λ report. (pieces : List (List ℕ)) × (text : List ℕ)
-        × S.gave source.old pieces source.new × W.took sink.old text sink.new × AreReads home passes.items options pieces
+        × S.gave source.old pieces source.new × W.took sink.old text sink.new
+        × AreReads home passes.items options pieces
         × ForEveryFile pieces
         (λ file. IsOutcome (run_with home passes.items options) file text (told_by report))
         × HasEndedAt (run_with home passes.items options) options.max_statement pieces report.end) }
-    // Before a fault a front of the text was written that is written for each such file: that of the chunks that are done,
-    // and, where a write failed, a front of what the next one adds. The fault tells what it does of a step.
+    // Before a fault a front of the text was written that is written for each such file: that of the chunks that are
+    // done, and, where a write failed, a front of what the next one adds. The fault tells what it does of a step: of a
+    // chunk that is too long, which is the next one, and that it has more bytes than it may, among those that were given.
     ensures stopped { IfErr result (λ fault. (pieces : List (List ℕ)) × (text : List ℕ)
-        × S.gave source.old pieces source.new × W.took sink.old text sink.new × AreReads home passes.items options pieces
+        × S.gave source.old pieces source.new × W.took sink.old text sink.new
+        × AreReads home passes.items options pieces
         × ForEveryFile pieces (λ file. (whole : List ℕ) (told : Told)
         → IsOutcome (run_with home passes.items options) file whole told → IsFrontOf text whole)
         × HasStopped (run_with home passes.items options) options pieces text fault) }
@@ -57,11 +58,6 @@ pub fn run<S: Source, W: Sink>(
     ensures too_long { IsErrOf result RunFault.InputTooLong → (pieces : List (List ℕ)) × (left : List ℕ)
         × S.gave source.old pieces source.new × (length pieces ≡ options.max_reads)
         × IsOneNeeded (run_with home passes.items options) options.max_statement pieces left }
-    // The chunk that begins on this line has more bytes than it may, among those that were given. (All before it were done:
-    // `stopped`.)
-    ensures statement_too_long { (line : ℕ) → result ≡ Err (RunFault.StatementTooLong line)
-        → (pieces : List (List ℕ)) × S.gave source.old pieces source.new
-        × ForEveryFile pieces (HasTooLong options.max_statement line (concat pieces)) }
     ensures going { result ≢ Err RunFault.Stopped }
 {
     let mut session = Session::new(alloc, home, passes, options)?;

@@ -12,7 +12,7 @@ ghost use Rattle.bz_engine.specs.Outcome.{run_with, told_by};
 ghost use Rattle.bz_engine.specs.private.ChunkFaults.{fault_at};
 ghost use Rattle.bz_engine.specs.private.Edits.{DoesNothing, EditsChunk, run_of};
 ghost use Rattle.bz_engine.specs.private.Finds.{Finds, FindsNext};
-ghost use Rattle.bz_engine.specs.private.NextChunks.{IsNext, IsNextEdited, IsFirstNext, CanTake, done_chunk};
+ghost use Rattle.bz_engine.specs.private.NextChunks.{IsNext, IsNextEdited, CanTake};
 ghost use Rattle.bz_engine.specs.SessionValue.{at_start, run_in, IsSameRun, IsReady, told_at};
 ghost use Rattle.bz_engine.specs.SessionSteps.{Steps, reader, writer};
 ghost use Rattle.bz_engine.specs.declared.session.SessionState.TheVariants.{Going, Ended, Stopped};
@@ -20,7 +20,7 @@ ghost use Rattle.bz_engine.specs.declared.session.SessionState.TheVariants.{Goin
 use crate::canonical::copy_canonical;
 use crate::edit::{Edited, ScriptRun};
 use crate::looks::Looks;
-use crate::next_chunk::{First, NextChunk, done_chunk, edit_bytes, edit_first};
+use crate::next_chunk::{NextChunk, edit_bytes, edit_first};
 use crate::options::Options;
 use crate::progress::Progress;
 use crate::report::{End, Report};
@@ -119,6 +119,7 @@ impl Session {
                 looks: Looks::new(),
                 spare: Spare::new(alloc),
                 buffers: ChunkBuffers::new(alloc),
+                lists: false,
             },
             ahead: Ahead::new(alloc),
             state: SessionState::Going,
@@ -250,13 +251,6 @@ impl Session {
         // After a fault what is kept is of no use.
         self.state = SessionState::Stopped;
         let mut text = self.take_text();
-        // Most chunks are copied: what is answered of those that are not is large.
-        if let Some(len) = self.copy_ahead(&mut text)? {
-            self.write(len, text.as_slice(), sink)?;
-            self.text = text;
-            self.state = SessionState::Going;
-            return Ok(Step::More);
-        }
         let Some(NextChunk { len, edited }) = self.edit_next(source, &mut text)? else {
             return Ok(self.end_at(End::Whole));
         };
@@ -319,28 +313,60 @@ impl Session {
 
     /// Runs the script on the first chunk of the text ahead, where that is likely to have its end and the chunk is
     /// copied (`canonical.rt`). None, with nothing done: else.
-    fn copy_ahead(&mut self, text: &mut Vec<u8>) -> Result<Option<usize>, NoMemory>
+    #[inline(always)]
+    fn copy_ahead(&mut self, text: &mut Vec<u8>) -> Result<Option<NextChunk>, NoMemory>
         requires stopped { self.old.state ≡ Stopped }
         requires ready { CanTake self.old }
         ensures same { self.new ≡ record self.old { progress = self.new.progress } }
         ensures fits { OnOk result (Fits self.new.progress.kept self.new.passes) }
-        ensures chunk { IfOk result (λ found. IfSome found (λ len. IsNextEdited self.old self.new
-            text.old.items text.new.items (done_chunk len))) }
-        ensures none { IfOk result (λ found. IfNone found
+        ensures chunk { IfOk result (λ next. IfSome next (IsNextEdited self.old self.new
+            text.old.items text.new.items)) }
+        ensures none { IfOk result (λ next. IfNone next
             (DoesNothing self.old.progress self.new.progress text.old.items text.new.items)) }
     {
         if self.progress.begins_short(self.ahead.bytes()) {
             return Ok(None);
         }
+        self.clear_lists();
         let options = self.options;
         let script = script_run(self.alloc, &self.bump, &self.home, &self.passes, options);
         copy_canonical(&self.ahead, script, &mut self.progress, text)
     }
 
-    /// Runs the script on the next chunk for `advance`; none where the input has ended. Where the bytes ahead seem to
+    /// The lists of sealed rules are given up, if there are any.
+    fn clear_lists(&mut self)
+        ensures { self.new ≡ self.old }
+    {
+        if self.progress.end_lists() {
+            clear(self.alloc, &mut self.bump);
+        }
+    }
+
+    /// Runs the script on the next chunk for `advance`; none where the input has ended. Most chunks are copied.
+    fn edit_next<S: Source>(
+        &mut self,
+        source: &mut S,
+        text: &mut Vec<u8>,
+    ) -> Result<Option<NextChunk>, RunFault>
+        requires ready { IsReady self.old }
+        requires made { self.old.ahead.reads ≤ self.old.options.max_reads }
+        requires stopped { self.old.state ≡ Stopped }
+        ensures same { self.new ≡ record self.old { ahead = self.new.ahead; progress = self.new.progress } }
+        ensures finds { FindsNext S.gave S.failures source.old source.new self.old self.new result }
+        ensures fits { OnOk result (Fits self.new.progress.kept self.new.passes) }
+        ensures next { IfOk result (IsNext self.old self.new text.old.items text.new.items) }
+    {
+        if let Some(next) = self.copy_ahead(text)? {
+            return Ok(Some(next));
+        }
+        self.edit_uncopied(source, text)
+    }
+
+    /// Runs the script on the next chunk; none where the input has ended. Where the bytes ahead seem to
     /// end before the chunk (`looks.rt` guesses), more is read first: to look at the front of a chunk would be in vain.
     /// Where they still seem to, the chunk is long, and its end is found line by line.
-    fn edit_next<S: Source>(
+    #[inline(never)]
+    fn edit_uncopied<S: Source>(
         &mut self,
         source: &mut S,
         text: &mut Vec<u8>,
@@ -356,13 +382,12 @@ impl Session {
         if read_short(&mut self.progress, &mut self.ahead, source, self.options)? {
             return self.edit_by_lines(source, text);
         }
-        self.edit_after_one_read(source, text)
+        self.edit_here_or_by_lines(source, text)
     }
 
     /// Runs the script on the next chunk. Most chunks end in the text ahead: then nothing is read, and the walk that
-    /// finds the end makes the tokens. Where the text ends before its chunk, more is read once, and the walk begins
-    /// again.
-    fn edit_after_one_read<S: Source>(
+    /// finds the end makes the tokens. The end of another is found line by line.
+    fn edit_here_or_by_lines<S: Source>(
         &mut self,
         source: &mut S,
         text: &mut Vec<u8>,
@@ -376,23 +401,9 @@ impl Session {
         ensures fits { OnOk result (Fits self.new.progress.kept self.new.passes) }
         ensures next { IfOk result (IsNext self.old self.new text.old.items text.new.items) }
     {
-        let mut may_read = true;
-        loop {
-            match self.edit_ahead(text)? {
-                First::Edited(next) => return Ok(Some(next)),
-                First::Short if may_read => {
-                    let search = Search {
-                        options: self.options,
-                        line: self.progress.line,
-                    };
-                    // Nothing was read: the chunk surely ends here, it is too long, or the input has ended.
-                    if !read_more(&mut self.ahead, source, search)? {
-                        return self.edit_by_lines(source, text);
-                    }
-                    may_read = false;
-                }
-                _ => return self.edit_by_lines(source, text),
-            }
+        match self.edit_ahead(text)? {
+            Some(next) => Ok(Some(next)),
+            None => self.edit_by_lines(source, text),
         }
     }
 
@@ -424,31 +435,38 @@ impl Session {
     }
 
     /// Runs the script on the first chunk of the text ahead: it is copied (`canonical.rt`), or else read.
-    fn edit_ahead(&mut self, text: &mut Vec<u8>) -> Result<First, NoMemory>
+    fn edit_ahead(&mut self, text: &mut Vec<u8>) -> Result<Option<NextChunk>, NoMemory>
         requires stopped { self.old.state ≡ Stopped }
         requires ready { CanTake self.old }
         ensures same { self.new ≡ record self.old { progress = self.new.progress } }
         ensures unread { IsReadOn self.old.options.max_reads self.old.ahead self.new.ahead [] }
         ensures fits { OnOk result (Fits self.new.progress.kept self.new.passes) }
-        ensures first { IfOk result (IsFirstNext self.old self.new text.old.items text.new.items) }
+        ensures chunk { IfOk result (λ next. IfSome next (IsNextEdited self.old self.new
+            text.old.items text.new.items)) }
+        ensures none { IfOk result (λ next. IfNone next (DoesNothing self.old.progress self.new.progress
+            text.old.items text.new.items)) }
     {
+        self.clear_lists();
         let options = self.options;
         let script = script_run(self.alloc, &self.bump, &self.home, &self.passes, options);
         match copy_canonical(&self.ahead, script, &mut self.progress, text)? {
-            Some(len) => Ok(First::Edited(done_chunk(len))),
+            Some(next) => Ok(Some(next)),
             None => self.read_and_edit(text),
         }
     }
 
     /// The same, where the chunk is read (`next_chunk.rt`).
     #[inline(never)]
-    fn read_and_edit(&mut self, text: &mut Vec<u8>) -> Result<First, NoMemory>
+    fn read_and_edit(&mut self, text: &mut Vec<u8>) -> Result<Option<NextChunk>, NoMemory>
         requires stopped { self.old.state ≡ Stopped }
         requires ready { CanTake self.old }
         ensures same { self.new ≡ record self.old { progress = self.new.progress } }
         ensures unread { IsReadOn self.old.options.max_reads self.old.ahead self.new.ahead [] }
         ensures fits { OnOk result (Fits self.new.progress.kept self.new.passes) }
-        ensures first { IfOk result (IsFirstNext self.old self.new text.old.items text.new.items) }
+        ensures chunk { IfOk result (λ next. IfSome next (IsNextEdited self.old self.new
+            text.old.items text.new.items)) }
+        ensures none { IfOk result (λ next. IfNone next (DoesNothing self.old.progress self.new.progress
+            text.old.items text.new.items)) }
     {
         // The lists of the last chunk that was read are given up.
         clear(self.alloc, &mut self.bump);

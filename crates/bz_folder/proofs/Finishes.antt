@@ -23,14 +23,6 @@ IsKeep (Err e) = ⊥
 keep-not-drop : (answer : Result Bool Failed) → answer ≡ Ok true → answer ≡ Ok false → ⊥
 keep-not-drop answer p q = subst IsKeep (sym p ∙ q) tt
 
-abbrev IsDrop : Result Bool Failed → Type 0
-IsDrop (Ok true) = ⊥
-IsDrop (Ok false) = ⊤
-IsDrop (Err e) = ⊥
-
-err-not-drop : (answer : Result Bool Failed) (e : Failed) → answer ≡ Err e → answer ≡ Ok false → ⊥
-err-not-drop answer e p q = subst IsDrop (sym q ∙ p) tt
-
 abbrev IsNo : Result Bool Trouble → Type 0
 IsNo (Ok true) = ⊥
 IsNo (Ok false) = ⊤

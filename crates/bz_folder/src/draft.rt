@@ -50,7 +50,13 @@ impl<D> Model for Draft<D> {
     ghost Value = { spec.DraftValue D };
 
     ghost view = { λ d.
-        record { folder = d.folder; temporary = string_bytes d.temporary; state = d.state; waiting = d.waiting; failures = d.failures } };
+        record {
+          folder = d.folder;
+          temporary = string_bytes d.temporary;
+          state = d.state;
+          waiting = d.waiting;
+          failures = d.failures;
+        } };
 }
 
 impl<D: Drop> Draft<D> {

@@ -1,7 +1,8 @@
-//! The folder of a program: the calls of std, and a count of them. `edit_all` of bz_program makes it, and `replace_file`
-//! (`replace.rt`) makes the calls, by the trait `Folder`.
+//! The folder of a program: the calls of std, and a count of them. `edit_all` of bz_program makes it, and
+//! `replace_file` (`replace.rt`) makes the calls, by the trait `Folder`.
 
 ghost use Rattle.std.specs.Prelude.{◌≡◌, ⊤};
+ghost use Rattle.bz_devices.specs.Device.{Counts};
 ghost use Rattle.bz_folder.specs.Tally.{no_calls, Tallies, tallies_nothing, tallies_more};
 
 use crate::folder::{CannotOpen, Folder, Opened, Purpose, Refusal};
@@ -238,6 +239,16 @@ impl<R: Files<File = File>> OnDisk<R> {
         }
     }
 
+    /// Counts a call that failed, and keeps why it did.
+    fn fail(&mut self, why: Refusal) -> Failed
+        ensures counted { Counts self.old.failures self.new.failures 1 }
+        ensures steady { self.new ≡ record self.old { failures = self.new.failures } }
+    {
+        self.refusal = why;
+        self.tally.failures = self.tally.failures.saturating_add(1);
+        Failed
+    }
+
     /// Puts the file that was made last in the place of the one that was read, unless one of them is otherwise than it
     /// was left.
     fn rename_draft(&mut self, from: &str, to: &str) -> Result<(), Refusal>
@@ -290,11 +301,7 @@ impl<R: Files<File = File>> Folder for OnDisk<R> {
                 self.tally.makes = self.tally.makes.saturating_add(1);
                 Ok(())
             }
-            Err(error) => {
-                self.refusal = refusal_of(&error);
-                self.tally.failures = self.tally.failures.saturating_add(1);
-                Err(Failed)
-            }
+            Err(error) => { Err(self.fail(refusal_of(&error))) }
         }
     }
 
@@ -304,9 +311,7 @@ impl<R: Files<File = File>> Folder for OnDisk<R> {
             None => Err(Refusal::Unknown),
         };
         if let Err(why) = written {
-            self.refusal = why;
-            self.tally.failures = self.tally.failures.saturating_add(1);
-            return Err(Failed);
+            return Err(self.fail(why));
         }
         self.tally.writes = self.tally.writes.saturating_add(1);
         self.tally.bytes = self.tally.bytes.saturating_add(bytes.len() as u64);
@@ -319,9 +324,7 @@ impl<R: Files<File = File>> Folder for OnDisk<R> {
             None => Err(Refusal::Unknown),
         };
         if let Err(why) = set {
-            self.refusal = why;
-            self.tally.failures = self.tally.failures.saturating_add(1);
-            return Err(Failed);
+            return Err(self.fail(why));
         }
         self.tally.modes = self.tally.modes.saturating_add(1);
         Ok(())
@@ -329,9 +332,7 @@ impl<R: Files<File = File>> Folder for OnDisk<R> {
 
     fn rename(&mut self, from: &str, to: &str) -> Result<(), Failed> {
         if let Err(why) = self.rename_draft(from, to) {
-            self.refusal = why;
-            self.tally.failures = self.tally.failures.saturating_add(1);
-            return Err(Failed);
+            return Err(self.fail(why));
         }
         self.tally.renames = self.tally.renames.saturating_add(1);
         Ok(())
@@ -341,9 +342,7 @@ impl<R: Files<File = File>> Folder for OnDisk<R> {
         self.made = None;
         if let Err(error) = fs::remove_file(&self.files, path) {
             if error.kind() != ErrorKind::NotFound {
-                self.refusal = refusal_of(&error);
-                self.tally.failures = self.tally.failures.saturating_add(1);
-                return Err(Failed);
+                return Err(self.fail(refusal_of(&error)));
             }
         }
         self.tally.removes = self.tally.removes.saturating_add(1);

@@ -6,8 +6,8 @@ use Rattle.std.specs.Str.{IsUtf8, IsCharBoundary}
 use Rattle.std.proofs.lemmas.Bool.{cases_Bool, and_parts, or_left, or_right, ltb-true}
 use Rattle.std.proofs.lemmas.List.{drop-drop, take_more, get_or-drop, length-drop}
 use Rattle.std.proofs.lemmas.Str.{IsCharBoundary-after_ascii, IsCharBoundary-before_ascii}
-use Rattle.bz_label.specs.Values.{escapes, meant, unit_value, is_newline}
-use Rattle.bz_label.specs.private.ValueSteps.{first_len, value_in, taken}
+use Rattle.bz_label.specs.Values.{escapes, meant}
+use Rattle.bz_label.specs.private.ValueSteps.{first_len, is_newline, unit_value, value_in, taken}
 use Rattle.bz_label.proofs.Literals.{taken_is}
 
 -- the bytes of a run that were read

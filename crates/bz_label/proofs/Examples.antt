@@ -1,7 +1,8 @@
 -- The definitions on worked examples.
 use Rattle.std.proofs.Common.{◌≡◌, Some, None, [], ◌∷◌, true, false, refl}
 use Rattle.std.specs.Prelude.{codes}
-use Rattle.bz_label.specs.Values.{value_of, is_string, quoted}
+use Rattle.bz_label.specs.Values.{value_of, quoted}
+use Rattle.bz_token.specs.Strings.{is_string}
 
 escaped_tab : value_of (codes "'a\\tb'") ≡ Some (97 ∷ 9 ∷ 98 ∷ [])
 escaped_tab = refl

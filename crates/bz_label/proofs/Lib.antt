@@ -4,6 +4,7 @@ mod Examples
 pub mod LabelSets
 mod LastParts
 pub mod Literals
+pub mod ValueForms
 mod Mended
 mod Numbers
 mod Opened

@@ -7,10 +7,10 @@ use Rattle.std.proofs.lemmas.List.{take_all, take_at, get_or_at, length-append}
 use Rattle.std.proofs.Math.Bool.{and_assoc}
 use Rattle.std.proofs.lemmas.Slice.Eq.{bytes_eq-Decides}
 use Rattle.bz_token.specs.Groups.{grouped_from}
-use Rattle.bz_token.specs.Pieces.{is_quote}
+use Rattle.bz_token.specs.Strings.{is_quote}
 use Rattle.bz_token.proofs.CutStrings.{grouped_joins, grouped_apart}
-use Rattle.bz_label.specs.Values.{is_plain, IsQuoted, IsPlain, takes, units, content, is_newline, unit_value, prefix_of, inner_of, value_of, values}
-use Rattle.bz_label.specs.private.ValueSteps.{plain_too, first_len, is_value, inner_value, value_in, taken, opened_value}
+use Rattle.bz_label.specs.Values.{is_plain, IsQuoted, IsPlain}
+use Rattle.bz_label.specs.private.ValueSteps.{takes, units, content, is_newline, unit_value, values, plain_too, first_len, is_value, inner_value, value_in, taken, opened_value}
 
 -- nothing more joins a group
 apart : (g xs : List ℕ) → ((x : ℕ) → takes g x ≡ false) → grouped_from takes g xs ≡ g ∷ units xs
@@ -126,7 +126,7 @@ starts_itself rest quotes h =
     let all : take (length quotes) quotes ≡ quotes = take_all (length quotes) quotes (omega arith) in
     rw (e, all) ((bytes_eq-Decides quotes quotes).1 refl)
 
-abbrev ended_at : List ℕ → List ℕ → Option (List ℕ)
+abbrev pub ended_at : List ℕ → List ℕ → Option (List ℕ)
 ended_at quotes rest = if not (length rest == 0) && bytes_eq rest quotes then Some [] else None
 
 -- at the closing quotes
@@ -172,45 +172,6 @@ past raw quotes rest after b h some e =
 pub is_value-iff : (v : List ℕ) (o : Option (List ℕ)) → (is_value v o ≡ true → o ≡ Some v) × (o ≡ Some v → is_value v o ≡ true)
 is_value-iff v None = ((λ h. cc), (λ h. cc))
 is_value-iff v (Some w) = ((λ h. ap (λ (x : List ℕ). Some x) (sym ((bytes_eq-Decides v w).0 h))), (λ h. (bytes_eq-Decides v w).1 (cc)))
-
-prefix_more : (b : ℕ) (bs : List ℕ) → is_quote b ≡ false → prefix_of (b ∷ bs) ≡ b ∷ prefix_of bs
-prefix_more b bs h = rw (h, one_more (prefix_len (λ x. not (is_quote x)) bs)) refl
-  where
-    one_more : (n : ℕ) → 1 + n ≡ suc n
-    one_more n = omega arith
-
-unopened : (raw : Bool) (b : ℕ) (bs : List ℕ) → is_quote b ≡ false → opened_value raw (b ∷ bs) ≡ None
-unopened raw b bs h = rw h refl
-
-no_value : (b : ℕ) (bs : List ℕ) → is_quote b ≡ false → (b ≡ 114 → ⊥) → value_of (b ∷ bs) ≡ None
-no_value b bs h k = rw (prefix_more b bs h, ne_eqb b 114 k) refl
-
-raw_other : (b : ℕ) (bs : List ℕ) → is_quote b ≡ false → value_of (114 ∷ b ∷ bs) ≡ None
-raw_other b bs h =
-    let text : List ℕ = 114 ∷ b ∷ bs in
-    let front : prefix_of (114 ∷ b ∷ bs) ≡ 114 ∷ b ∷ prefix_of bs = prefix_more 114 (b ∷ bs) refl ∙ ap (λ (xs : List ℕ). 114 ∷ xs) (prefix_more b bs h) in
-    ap (λ (p : List ℕ). if bytes_eq p [] then option_and_then (values false) (inner_of text) else (if bytes_eq p (codes "r") then option_and_then (values true) (inner_of (drop 1 text)) else None)) front
-
--- what begins with neither a quote nor an `r` has no value, and what begins with an `r` only where a quote follows
-pub opened_other : (text : List ℕ) → bytes_eq (take 1 text) (codes "r") ≡ false → opened_value false text ≡ value_of text
-opened_other [] h = refl
-opened_other (b ∷ bs) h = elim (cases_Bool (is_quote b)) [
-  | inl is ↦ rw is refl
-  | inr other ↦ unopened false b bs other ∙ sym (no_value b bs other (λ e. let none : true ≡ false = rw e at h in cc))
-]
-
-after_r : (bs : List ℕ) → opened_value true bs ≡ value_of (114 ∷ bs)
-after_r [] = refl
-after_r (b ∷ bs) = elim (cases_Bool (is_quote b)) [
-  | inl is ↦ rw is refl
-  | inr other ↦ unopened true b bs other ∙ sym (raw_other b bs other)
-]
-
-pub opened_raw : (text literal : List ℕ) → bytes_eq (take 1 text) (codes "r") ≡ true → literal ≡ drop 1 text → opened_value true literal ≡ value_of text
-opened_raw [] literal h e = absurd (cc)
-opened_raw (b ∷ bs) literal h e =
-    let first : b ≡ 114 = eqb-true b 114 (and_parts (b == 114) true h).0 in
-    ap (opened_value true) e ∙ after_r bs ∙ ap (λ (c : ℕ). value_of (c ∷ bs)) (sym first)
 
 off : (b : Bool) → not b ≡ true → b ≡ false
 off true h = sym h

@@ -2,8 +2,9 @@
 use Rattle.std.proofs.Common.{◌≡◌, ℕ, ◌==◌, List, [], ◌∷◌, ◌++◌, false, Some, nat_eq, refl, sym, ◌∙◌, arith, inl, inr, append_assoc, eqb-true}
 use Rattle.std.specs.List.{flat_map, starts_with}
 use Rattle.std.proofs.lemmas.Bool.{cases_Bool, eqb-false, ne_eqb}
-use Rattle.bz_label.specs.Values.{written, quoted, escapes, meant, value_of, opening}
-use Rattle.bz_label.specs.private.ValueSteps.{first_len, inner_value}
+use Rattle.bz_label.specs.Values.{written, quoted, escapes, meant, value_of}
+use Rattle.bz_label.specs.private.ValueSteps.{opening, opened_value, first_len, inner_value}
+use Rattle.bz_label.proofs.ValueForms.{opened_other}
 use Rattle.bz_label.proofs.Literals.{step, one_alone}
 
 escape_len : (x : ℕ) (r : List ℕ) → x == 13 ≡ false → first_len (92 ∷ x ∷ r) ≡ 2
@@ -65,4 +66,7 @@ one_quote [] = refl
 one_quote (b ∷ v) = rw (append_assoc (written b) (flat_map written v) (34 ∷ []), first_written b (flat_map written v ++ 34 ∷ [])) refl
 
 pub quoted_value : (v : List ℕ) → value_of (quoted v) ≡ Some v
-quoted_value v = rw (one_quote v) (inner_read v)
+quoted_value v = sym (opened_other (quoted v) refl) ∙ inside v
+  where
+    inside : (v : List ℕ) → opened_value false (quoted v) ≡ Some v
+    inside v = rw (one_quote v) (inner_read v)

@@ -1,6 +1,6 @@
 -- The arguments of commands: what those keep that were read (this project's own rule), which attributes they mention, and a test of their words.
-use Rattle.std.specs.Prelude.{ℕ, ◌==◌, List, [], ◌∷◌, Bool, true, false, ◌&&◌, ◌||◌, if◌then◌else◌, not, length, codes, bytes_eq}
-use Rattle.std.specs.List.{list_all, list_any}
+use Rattle.std.specs.Prelude.{ℕ, ◌==◌, List, Bool, true, false, ◌&&◌, ◌||◌, not, length, bytes_eq}
+use Rattle.std.specs.List.{list_all}
 use Rattle.bz_label.specs.declared.arguments.Attributes.{Attributes}
 use Rattle.bz_label.specs.declared.arguments.Attributes.TheVariants.{Every, Named}
 use Rattle.bz_label.specs.declared.arguments.Setting.{Setting}
@@ -9,28 +9,11 @@ use Rattle.bz_label.specs.declared.arguments.Moved.{Moved}
 use Rattle.bz_label.specs.declared.arguments.Moved.TheVariants.{All, Values}
 use Rattle.bz_label.specs.declared.arguments.Commented.{Commented}
 use Rattle.bz_label.specs.declared.arguments.Commented.TheVariants.{Rule, Attribute, Value}
-use Rattle.bz_label.specs.declared.arguments.Field.{Field}
-use Rattle.bz_label.specs.declared.arguments.Field.TheVariants.{EndLine, Kind, Label, StartLine, ValueOf}
 use Rattle.bz_label.specs.Names.{is_identifier, is_kind}
 
 -- a newline or a carriage return
 abbrev pub breaks_line : ℕ → Bool
 breaks_line b = b == 10 || b == 13
-
--- the fields that buildozer has and this program leaves out
-abbrev pub is_left_out_field : List ℕ → Bool
-is_left_out_field word = list_any (bytes_eq word) (codes "rule" ∷ codes "attrs" ∷ codes "path" ∷ [])
-
-abbrev pub is_field : List ℕ → Bool
-is_field word = is_identifier word && not (is_left_out_field word)
-
--- the field that such a word names
-abbrev pub field_of : List ℕ → Field
-field_of word =
-    if bytes_eq word (codes "label") then Label
-    else (if bytes_eq word (codes "kind") then Kind
-    else (if bytes_eq word (codes "startline") then StartLine
-    else (if bytes_eq word (codes "endline") then EndLine else ValueOf word)))
 
 -- what a command that was read keeps
 abbrev pub are_attributes : Attributes → Bool
@@ -50,10 +33,6 @@ is_commented Rule = true
 is_commented (Attribute attr) = is_identifier attr
 is_commented (Value attr value) = is_identifier attr
 
-abbrev pub is_named_field : Field → Bool
-is_named_field (ValueOf attr) = is_field attr
-is_named_field _ = true
-
 -- `*` mentions every name
 abbrev pub attributes_mention : List ℕ → Attributes → Bool
 attributes_mention name Every = true
@@ -67,15 +46,6 @@ abbrev pub comment_mentions : List ℕ → Commented → Bool
 comment_mentions name Rule = false
 comment_mentions name (Attribute attr) = bytes_eq attr name
 comment_mentions name (Value attr value) = bytes_eq attr name
-
-abbrev pub field_mentions : List ℕ → Field → Bool
-field_mentions name (ValueOf attr) = bytes_eq attr name
-field_mentions name _ = false
-
--- without fields the name is printed
-abbrev pub print_mentions : List ℕ → List Field → Bool
-print_mentions name [] = bytes_eq name (codes "name")
-print_mentions name (field ∷ fields) = list_any (field_mentions name) (field ∷ fields)
 
 abbrev pub attributes_pass : (List ℕ → Bool) → Attributes → Bool
 attributes_pass test Every = true

@@ -111,7 +111,7 @@ IsRead All = Unit {0}
 IsRead (Kind kind) = IsTrue (is_kind kind)
 IsRead (Line line) = line < 2 ^ 64
 
--- a target that is to mark something
+-- a target that has to mark something: not `*` and not a kind, of which there may be no rule
 abbrev pub must_mark : Target → Bool
 must_mark All = false
 must_mark (Kind kind) = false

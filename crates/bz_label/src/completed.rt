@@ -144,7 +144,8 @@ pub(crate) fn order<'a>(texts: &'a [Bytes<'a>], others: &'a [Bytes<'a>]) -> Orde
 // The next byte, and what is left after it.
 fn next_in<'a>(chain: Chain<'a>) -> Option<(u8, Chain<'a>)>
     requires { IsTrue (is_good_chain chain) }
-    ensures next { MatchOption result (chain_bytes chain.entry ≡ []) (λ p. chain_bytes chain.entry ≡ p.0 ∷ chain_bytes p.1) }
+    ensures next { MatchOption result (chain_bytes chain.entry ≡ [])
+        (λ p. chain_bytes chain.entry ≡ p.0 ∷ chain_bytes p.1) }
     ensures good { IfSome result (λ p. IsTrue (is_good_chain p.1)) }
 {
     if let Some((b, first)) = next(chain.first) {

@@ -1,4 +1,5 @@
-//! A text as a label of a package, which is ordered by a key, and then by its bytes in full; and which texts are the same.
+//! A text as a label of a package, which is ordered by a key, and then by its bytes in full; and which texts are the
+//! same.
 
 ghost use Rattle.std.specs.Prelude.{◌≡◌, ◌↔◌, Some, refl, IsTrue, bytes_eq};
 ghost use Rattle.std.specs.List.{fold, flat_map, list_all};
@@ -114,7 +115,8 @@ impl<'a> Ord for Label<'a> {
     }
 }
 
-/// Whether two texts are the same label in a package, its home: `x` and `:x` there are `//path:x`, and `//a/b` is `//a/b:b`.
+/// Whether two texts are the same label in a package, its home: `x` and `:x` there are `//path:x`, and `//a/b` is
+/// `//a/b:b`.
 pub fn same(a: &str, b: &str, home: &Package) -> bool
     ensures { IsTrue result ↔ spec.IsSame home.now a.now b.now }
 {
@@ -127,5 +129,15 @@ pub fn same_label(home: &Package, a: Bytes<'_>, b: Bytes<'_>) -> bool
     requires b { IsTrue (is_good b) }
     ensures { result ≡ bytes_eq (spec.completed home.now (left a.entry)) (spec.completed home.now (left b.entry)) }
 {
-    order(&completed(home, a), &completed(home, b)).is_eq()
+    are_same_bytes(a, b) || order(&completed(home, a), &completed(home, b)).is_eq()
+}
+
+/// Whether the two are the same bytes without escapes: then nothing has to be completed.
+fn are_same_bytes(a: Bytes<'_>, b: Bytes<'_>) -> bool
+    ensures { IsTrue result → left a.entry ≡ left b.entry }
+{
+    match (a, b) {
+        (Bytes::Plain(a), Bytes::Plain(b)) => a == b,
+        _ => false,
+    }
 }

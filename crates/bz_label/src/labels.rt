@@ -24,9 +24,9 @@ pub enum LabelFault {
     BadTarget,
 }
 
-/// Reads a label as a package and a target (buildozer README, targets): `//PATH:TARGET`, `PATH:TARGET`, `:TARGET` in the
-/// root, `-:TARGET` for standard input, or a path alone, whose last part is then the name. A bad package is reported
-/// before a bad target.
+/// Reads a label as a package and a target (buildozer README, targets): `//PATH:TARGET`, `PATH:TARGET`, `:TARGET` in
+/// the root, `-:TARGET` for standard input, or a path alone, whose last part is then the name. A bad package is
+/// reported before a bad target.
 pub fn read_label(alloc: Global, text: &str) -> Result<(Package, Target), LabelFault>
     ensures { result ≢ Err (LabelFault.OutOfMemory no_memory) → result ≡ spec.label_of text.now }
 {

@@ -21,9 +21,7 @@ mod target;
 mod value;
 mod words;
 
-pub use arguments::{
-    Attributes, Commented, Field, Moved, NO_SUCH_FIELD, Setting, is_left_out_field, read_field,
-};
+pub use arguments::{Attributes, Commented, Moved, Setting};
 pub use bytes::{Bytes, value_of};
 pub use decode::read_value;
 pub use label::{same, same_label};

@@ -11,8 +11,8 @@ use bz_memory::{NoMemory, push_char, push_str};
 use bz_token::{Kind, Token};
 use std::alloc::Global;
 
-/// Whether the token is a string literal with this value. A bytes literal, a raw string with a backslash and a string with an
-/// escape other than `\a \b \f \n \r \t \v \\ \' \"` have no value.
+/// Whether the token is a string literal with this value. A bytes literal, a raw string with a backslash and a string
+/// with an escape other than `\a \b \f \n \r \t \v \\ \' \"` have no value.
 pub fn value_is(token: &Token<'_>, value: &str) -> bool
     ensures { IsTrue result ↔ (spec.token_value token.now ≡ Some value.now) }
 {

@@ -3,6 +3,7 @@ pub mod Quotes
 pub mod Scans
 pub mod Runs
 pub mod RowWalks
+pub mod SameLayout
 pub mod Texts
 pub mod Lines
 pub mod Examples

@@ -1,5 +1,5 @@
 -- The text of a statement is that of its lines.
-use Rattle.std.proofs.Common.{◌≡◌, ℕ, List, [], ◌∷◌, ◌++◌, Bool, true, false, refl, ◌∙◌, append_assoc, append-nil, inl, inr}
+use Rattle.std.proofs.Common.{◌≡◌, ℕ, List, [], ◌∷◌, ◌++◌, Bool, true, false, refl, ap, sym, ◌∙◌, append_assoc, append-nil, inl, inr}
 use Rattle.std.specs.Prelude.{codes}
 use Rattle.std.specs.Prelude.Option.{None}
 use Rattle.std.specs.Str.{bytes_eq}
@@ -12,7 +12,10 @@ use Rattle.bz_layout.specs.declared.spacing.Gap.{Gap}
 use Rattle.bz_layout.specs.declared.spacing.Gap.TheVariants.{Closed, Space, Apart, Line}
 use Rattle.bz_layout.specs.declared.broken.Style.TheVariants.{Broken}
 use Rattle.bz_layout.specs.Pieces.{Piece, piece, indent, gap_bytes, bytes_of, comment_lines, suffix_piece}
-use Rattle.bz_layout.specs.Layout.{items_pieces, statement_line, is_comment, layout, layout_text}
+use Rattle.bz_layout.specs.Layout.{is_comment, layout, layout_text}
+use Rattle.bz_layout.specs.Walked.{items_pieces, statement_line}
+use Rattle.bz_layout.specs.Walked as walked
+use Rattle.bz_layout.proofs.SameLayout.{layout_is, layout_text_is}
 use Rattle.bz_token.specs.Brackets.{is_line}
 use Rattle.bz_layout.specs.Lines.{TextLine, text_line, lines_text, is_newline, ended_by, line_after, lines_from, lines_of}
 
@@ -71,8 +74,11 @@ comments_read : (comments : List (List ℕ)) → bytes_of (comment_lines comment
 comments_read [] = refl
 comments_read (n ∷ comments) = from_lines (comment_lines (n ∷ comments)) (text_line 0 []) (comments_end n comments)
 
-pub text_is_lines : (s : Statement) → layout_text s ≡ lines_text (lines_of (layout s))
-text_is_lines s = elim (cases_Bool (is_comment s.class)) [
+walk_is_lines : (s : Statement) → walked.layout_text s ≡ lines_text (lines_of (walked.layout s))
+walk_is_lines s = elim (cases_Bool (is_comment s.class)) [
   | inl hit ↦ rw (hit, append-nil (comment_lines s.before)) (comments_read s.before)
   | inr miss ↦ rw miss (from_lines (comment_lines s.before ++ statement_line s) (text_line 0 []) (ends_after (comment_lines s.before) (statement_line s) (statement_ends s)))
 ]
+
+pub text_is_lines : (s : Statement) → layout_text s ≡ lines_text (lines_of (layout s))
+text_is_lines s = layout_text_is s ∙ walk_is_lines s ∙ ap (λ (ps : List Piece). lines_text (lines_of ps)) (sym (layout_is s))

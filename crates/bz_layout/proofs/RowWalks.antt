@@ -1,12 +1,13 @@
 -- The walk forwards, some parts at a time.
-use Rattle.std.proofs.Common.{◌≡◌, codes, ◌+◌, ◌-◌, ◌≤◌, ◌<◌, ℕ, zero, suc, List, [], ◌∷◌, ◌++◌, append_assoc, map, take, drop, get_or, length, length-append, Bool, true, false, if◌then◌else◌, refl, ap, sym, ◌∙◌, arith}
-use Rattle.std.proofs.lemmas.List.{drop-drop, drop-map, drop_more, length-drop, length-map, take_at, take-append-drop, take_rest}
-use Rattle.bz_token.specs.declared.token.Kind.TheVariants.{Integer}
+use Rattle.std.proofs.Common.{◌≡◌, codes, ◌+◌, ◌-◌, ◌≤◌, ◌<◌, ℕ, zero, suc, List, [], ◌∷◌, ◌++◌, append_assoc, map, take, drop, get_or, reverse, length, length-append, Bool, true, false, if◌then◌else◌, refl, ap, sym, ◌∙◌, arith}
+use Rattle.std.proofs.lemmas.List.{drop-map, drop_more, length-map, take_at, take-append-drop, take_rest}
+use Rattle.bz_token.specs.declared.token.Kind.{Kind}
 use Rattle.bz_tree.specs.Rows.{RowPart, a_token, opening, closing, segment_end, above, beside}
 use Rattle.bz_layout.specs.declared.spacing.Edge.TheVariants.{Start}
 use Rattle.bz_layout.specs.declared.spacing.Gap.TheVariants.{Line}
 use Rattle.bz_layout.specs.declared.walk.RowWriter.{RowWriter}
 use Rattle.bz_layout.specs.Pieces.{gap_bytes}
+use Rattle.bz_layout.specs.Respell.{respell}
 use Rattle.bz_layout.specs.private.RowLayout.{Laid, ended, laid, run, step, with_token}
 
 run_joined : (ps qs : List RowPart) (s : Laid) → run (ps ++ qs) s ≡ run qs (run ps s)
@@ -14,26 +15,14 @@ run_joined [] qs s = refl
 run_joined (p ∷ ps) qs s = run_joined ps qs (step p s)
 
 -- a part and those after it
-rest_at : {P : Type 0} (f : P → RowPart) (ps : List P) (at : ℕ) (d : P) → at < length ps → f (get_or ps at d) ∷ map f (take (length ps - (at + 1)) (drop (at + 1) ps)) ≡ map f (drop at ps)
+pub rest_at : {P : Type 0} (f : P → RowPart) (ps : List P) (at : ℕ) (d : P) → at < length ps → f (get_or ps at d) ∷ map f (take (length ps - (at + 1)) (drop (at + 1) ps)) ≡ map f (drop at ps)
 rest_at f ps at d h = ap (λ qs. f (get_or ps at d) ∷ map f qs) (take_rest ps (at + 1)) ∙ ap (map f) (sym (drop_more ps at d h))
 
--- some of them, and then the others
-run_some : {P : Type 0} (f : P → RowPart) (ps : List P) (at n : ℕ) (d : P) (s t : Laid) → at < length ps
-    → t ≡ run (take n (f (get_or ps at d) ∷ map f (take (length ps - (at + 1)) (drop (at + 1) ps)))) s → run (map f (drop (at + n) ps)) t ≡ run (map f (drop at ps)) s
-run_some f ps at n d s t h is =
-    let rest = map f (drop at ps) in
-    let others : map f (drop (at + n) ps) ≡ drop n rest = ap (map f) (sym (drop-drop n at ps)) ∙ sym (drop-map f n (drop at ps)) in
-    let some : t ≡ run (take n rest) s = is ∙ ap (λ qs. run (take n qs) s) (rest_at f ps at d h) in
-    ap (λ qs. run qs t) others ∙ (ap (run (drop n rest)) some ∙ (sym (run_joined (take n rest) (drop n rest) s) ∙ ap (λ qs. run qs s) (take-append-drop n rest)))
-
-one_and_more : (n : ℕ) (p : RowPart) (qs : List RowPart) (s : Laid) → run (take n qs) (step p s) ≡ run (take (1 + n) (p ∷ qs)) s
-one_and_more n p qs s =
-    let next : suc n ≡ 1 + n = omega arith in
-    ap (λ (k : ℕ). run (take k (p ∷ qs)) s) next
-
-pub run_on : {P : Type 0} (f : P → RowPart) (ps : List P) (at n : ℕ) (d : P) (s t : Laid) → at < length ps
-    → t ≡ run (take n (map f (take (length ps - (at + 1)) (drop (at + 1) ps)))) (step (f (get_or ps at d)) s) → run (map f (drop (at + (1 + n)) ps)) t ≡ run (map f (drop at ps)) s
-run_on f ps at n d s t h is = run_some f ps at (1 + n) d s t h (is ∙ one_and_more n _ _ s)
+-- a part is laid out, and some of those after it
+pub run_on : {P : Type 0} (f : P → RowPart) (p : RowPart) (after : List P) (n : ℕ) (s t : Laid) → t ≡ run (take n (map f after)) (step p s) → run (map f (drop n after)) t ≡ run (p ∷ map f after) s
+run_on f p after n s t is =
+    let qs = map f after in
+    ap (λ rs. run rs t) (sym (drop-map f n after)) ∙ (ap (run (drop n qs)) is ∙ (sym (run_joined (take n qs) (drop n qs) (step p s)) ∙ ap (λ rs. run rs (step p s)) (take-append-drop n qs)))
 
 one_more : (b : Bool) (n : ℕ) → (if b then n + 1 else n) ≤ n + 1
 one_more true n = omega arith
@@ -60,26 +49,28 @@ levels (suc n) (p ∷ ps) s = omega (arith, levels n ps (step p s), level_after 
 pub level_on : (n : ℕ) (p : RowPart) (ps : List RowPart) (s t : Laid) → t ≡ run (take n ps) (step p s) → t.level ≤ s.level + (1 + n)
 level_on n p ps s t is = omega (arith, levels n ps (step p s), level_after p s, ap (λ (u : Laid). u.level) is)
 
-pub within_on : {P : Type 0} (f : P → RowPart) (ps : List P) (at n : ℕ) → at < length ps → n ≤ length (map f (take (length ps - (at + 1)) (drop (at + 1) ps))) → at + (1 + n) ≤ length ps
-within_on f ps at n h le =
-    let others = take (length ps - (at + 1)) (drop (at + 1) ps) in
-    omega (arith, h, le, length-map others f, ap length (take_rest ps (at + 1)), length-drop (at + 1) ps)
-
 -- some of the parts are laid out, and the others stay
 pub record IsLaidUpTo (all rest : List RowPart) (old new : Laid) : Type 0 where
   pub done : List RowPart
   pub parts : all ≡ done ++ rest
   pub ok : new ≡ run done old
 
--- a number on a line of its own with its comma, and the end of its segment
-pub number_laid : (w : RowWriter) (before after text : List ℕ) → w.left ≡ Start → w.here.mark.broken ≡ true → w.here.mark.comma ≡ true
-    → after ≡ before ++ (gap_bytes (Line w.level) ++ (text ++ codes ",")) → laid w after ≡ ended (with_token Integer text (laid w before))
-number_laid w before after text at_start broken comma put = rw (put, at_start, broken, comma) (simp append_assoc)
+-- where segments have lines and commas, before one of them, with this text
+abbrev at_item : RowWriter → List ℕ → Laid
+at_item w text = record { text = text; marks = reverse w.marks.items; outer = reverse w.outer.items; here = record { within = w.here.within; mark = record { broken = true; comma = true }; later = w.here.later }; left = Start; level = w.level }
 
--- one number more
-pub one_up : (all rest more : List RowPart) (text : List ℕ) (old mid new : Laid) → rest ≡ a_token Integer text ∷ segment_end ∷ more → IsLaidUpTo all rest old mid → new ≡ ended (with_token Integer text mid) → IsLaidUpTo all more old new
-one_up all rest more text old mid new seen upto laid =
-    let two = a_token Integer text ∷ segment_end ∷ [] in
+with_comma : (before gap text : List ℕ) → before ++ (gap ++ (text ++ codes ",")) ≡ (before ++ (gap ++ text)) ++ codes ","
+with_comma before gap text = ap (λ (xs : List ℕ). before ++ xs) (sym (append_assoc gap text (codes ","))) ∙ sym (append_assoc before (gap ++ text) (codes ","))
+
+-- a token that is written as it stands, on a line of its own with its comma, and the end of its segment
+pub item_laid : (w : RowWriter) (before after text : List ℕ) (kind : Kind) → w.left ≡ Start → w.here.mark.broken ≡ true → w.here.mark.comma ≡ true → respell kind text ≡ text
+    → after ≡ before ++ (gap_bytes (Line w.level) ++ (text ++ codes ",")) → laid w after ≡ ended (with_token kind text (laid w before))
+item_laid w before after text kind at_start broken comma stays put = rw (put, at_start, broken, comma, stays) (ap (at_item w) (with_comma before (gap_bytes (Line w.level)) text))
+
+-- one item more
+pub one_up : (all rest more : List RowPart) (kind : Kind) (text : List ℕ) (old mid new : Laid) → rest ≡ a_token kind text ∷ segment_end ∷ more → IsLaidUpTo all rest old mid → new ≡ ended (with_token kind text mid) → IsLaidUpTo all more old new
+one_up all rest more kind text old mid new seen upto laid =
+    let two = a_token kind text ∷ segment_end ∷ [] in
     record {
       done = upto.done ++ two;
       parts = upto.parts ∙ (ap (λ qs. upto.done ++ qs) seen ∙ sym (append_assoc upto.done two more));

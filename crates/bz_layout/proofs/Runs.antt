@@ -13,10 +13,10 @@ use Rattle.bz_layout.specs.declared.spacing.Gap.{Gap}
 use Rattle.bz_layout.specs.declared.spacing.Gap.TheVariants.{Closed, Space, Line}
 use Rattle.bz_layout.specs.declared.broken.Style.{Style}
 use Rattle.bz_layout.specs.declared.broken.Style.TheVariants.{Flat, Broken}
-use Rattle.bz_layout.specs.Broken.{count, is_broken, segs_hold}
-use Rattle.bz_layout.specs.Spacing.{edge_after, operator_edge, is_prefix, begins_argument, is_index_colon, gap_before, gap_for, hugs}
+use Rattle.bz_layout.specs.Walked.{count, is_broken, segs_hold, edge_after, operator_edge, is_prefix, begins_argument, is_index_colon, gap_before, gap_for, item_pieces, items_pieces, broken_segs, flat_segs, opening as opening_text, closing as closing_text}
+use Rattle.bz_layout.specs.Spacing.{hugs}
 use Rattle.bz_layout.specs.Pieces.{Piece, piece, gap_bytes, bytes_of, comma_if, comments, suffix_piece}
-use Rattle.bz_layout.specs.Layout.{breaks, has_commas, item_pieces, items_pieces, broken_segs, flat_segs, opening as opening_text, closing as closing_text}
+use Rattle.bz_layout.specs.Layout.{breaks, has_commas}
 use Rattle.bz_layout.specs.private.RowLayout.{Laid, run, top, comma_bytes, due, is_start, first_gap}
 use Rattle.bz_layout.proofs.Pieces.{bytes_append}
 use Rattle.bz_layout.proofs.Scans.{mark_as, item_marks, items_marks, segs_marks}

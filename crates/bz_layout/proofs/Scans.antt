@@ -8,7 +8,8 @@ use Rattle.bz_tree.specs.Tree.{Item, leaf, group, Items, no_items, item, Segs, n
 use Rattle.bz_tree.specs.Rows.{RowPart, closing, segment_end, above, beside_part, item_parts, items_parts, segs_parts}
 use Rattle.bz_layout.specs.declared.marks.BracketForm.{BracketForm}
 use Rattle.bz_layout.specs.declared.marks.Contents.{Contents}
-use Rattle.bz_layout.specs.Broken.{count, have_comments, breaks_by_count, is_broken, holds_broken, items_hold, segs_hold}
+use Rattle.bz_layout.specs.Broken.{breaks_by_count}
+use Rattle.bz_layout.specs.Walked.{count, have_comments, is_broken, holds_broken, items_hold, segs_hold}
 use Rattle.bz_layout.specs.Layout.{has_commas}
 use Rattle.bz_layout.specs.private.RowLayout.{Scan, closed, mark_of, below, opened_back, scan}
 use Rattle.bz_token.specs.Common.{is_filled}

@@ -13,7 +13,10 @@ use Rattle.bz_layout.specs.declared.spacing.Edge.TheVariants.{Start}
 use Rattle.bz_layout.specs.declared.spacing.Gap.TheVariants.{Closed}
 use Rattle.bz_layout.specs.declared.broken.Style.TheVariants.{Flat, Broken}
 use Rattle.bz_layout.specs.Pieces.{Piece, piece, bytes_of, comment_lines, suffix_piece}
-use Rattle.bz_layout.specs.Layout.{items_pieces, statement_line, is_comment, layout_text, flat_text}
+use Rattle.bz_layout.specs.Layout.{is_comment, layout_text, flat_text}
+use Rattle.bz_layout.specs.Walked.{items_pieces, statement_line}
+use Rattle.bz_layout.specs.Walked as walked
+use Rattle.bz_layout.proofs.SameLayout.{flat_text_is, layout_text_is}
 use Rattle.bz_layout.specs.private.RowLayout.{leading, Laid, Scan, lines_text, run, scan, start, top}
 use Rattle.bz_layout.proofs.Pieces.{bytes_append}
 use Rattle.bz_layout.proofs.Scans.{items_marks, scan_above, scan_items}
@@ -59,8 +62,8 @@ line_is t s =
     let written = ap (λ (l : Laid). l.text) (skipped ∙ run_items Broken xs (beside_part s.suffix) t [] [] (top None) Start 0) ∙ beside_text s.suffix (t ++ bytes_of a) [] [] (last_edge None Start xs) 0 in
     rw (all_marks s) (ap (λ (u : List ℕ). u ++ codes "\n") written ∙ line_joined t a (suffix_piece s.suffix))
 
-pub parts_laid : (t : List ℕ) (s : Statement) → row_text t (parts_of s) s.class ≡ t ++ layout_text s
-parts_laid t s =
+walk_laid : (t : List ℕ) (s : Statement) → row_text t (parts_of s) s.class ≡ t ++ walked.layout_text s
+walk_laid t s =
     let comments : leading (parts_of s) ≡ s.before = leads s.before (rest_of s) (no_leading (items_of s.nodes) s.suffix) in
     rw comments (elim (cases_Bool (is_comment s.class)) [
       | inl hit ↦ rw (hit, append-nil (comment_lines s.before)) refl
@@ -68,6 +71,9 @@ parts_laid t s =
           let above = bytes_of (comment_lines s.before) in
           rw (miss, bytes_append (comment_lines s.before) (statement_line s)) (line_is (t ++ above) s ∙ append_assoc t above (bytes_of (statement_line s)))
     ])
+
+pub parts_laid : (t : List ℕ) (s : Statement) → row_text t (parts_of s) s.class ≡ t ++ layout_text s
+parts_laid t s = walk_laid t s ∙ ap (λ (text : List ℕ). t ++ text) (sym (layout_text_is s))
 
 row_laid : (t : List ℕ) (s : Statement) (ps : List RowPart) (class : Class) → ps ≡ parts_of s → class ≡ s.class → row_text t ps class ≡ t ++ layout_text s
 row_laid t s ps class parts is = rw (parts, is) (parts_laid t s)
@@ -89,4 +95,4 @@ line_row before text now ps ms first last leads marks begun laid put =
 pub flat_laid : (within : Option GroupKind) (xs : List Item) → (run (items_parts (items_of xs)) (start [] [] within)).text ≡ flat_text within xs
 flat_laid within xs =
     let written = run_items Flat (items_of xs) [] [] [] [] (top within) Start 0 in
-    ap (λ (l : Laid). l.text) (rw (append-nil (items_parts (items_of xs))) at written)
+    ap (λ (l : Laid). l.text) (rw (append-nil (items_parts (items_of xs))) at written) ∙ sym (flat_text_is within xs)

@@ -4,5 +4,6 @@ pub mod Broken
 pub mod Pieces
 pub mod Lines
 pub mod Layout
+pub mod Walked
 pub mod Gaps
 pub mod private

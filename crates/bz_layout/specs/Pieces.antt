@@ -1,6 +1,8 @@
--- A written text as pieces: tokens and comments, each after its gap (this project's own form of a layout).
+-- A written text as pieces: tokens and comments, each after its gap (this project's own form of a layout). `Gap` is an enum of
+-- `src/spacing.rt`. Other pieces are those of reads (stop 1), of a value (stop 5, `Lists`) and of a text that is read (stop 8).
 -- Begin with `Piece` and `bytes_of`.
-use Rattle.std.specs.Prelude.{codes, ℕ, zero, suc, List, [], ◌∷◌, ◌++◌, Bool, if◌then◌else◌, Option, map, flat_map}
+use Rattle.std.specs.Prelude.{codes, ℕ, zero, suc, List, [], ◌∷◌, ◌++◌, Bool, true, false, if◌then◌else◌, Option, map, flat_map}
+use Rattle.std.specs.List.{list_any}
 use Rattle.std.specs.Prelude.Option.{Some, None}
 use Rattle.bz_token.specs.declared.token.Kind.{Kind}
 use Rattle.bz_token.specs.declared.token.Kind.TheVariants.{Operator, Newline, Comment}
@@ -28,11 +30,21 @@ gap_bytes Space = 32 ∷ []
 gap_bytes Apart = 32 ∷ 32 ∷ []
 gap_bytes (Line level) = 10 ∷ indent level
 
+-- a new line
+abbrev pub begins_line : Gap → Bool
+begins_line (Line level) = true
+begins_line _ = false
+
+-- not all on one line
+abbrev pub are_lined : List Piece → Bool
+are_lined ps = list_any (λ p. begins_line p.gap) ps
+
 -- what is written
 abbrev pub bytes_of : List Piece → List ℕ
 bytes_of [] = []
 bytes_of (p ∷ ps) = gap_bytes p.gap ++ (p.text ++ bytes_of ps)
 
+-- a comma, directly after what stands before it
 abbrev pub comma_if : Bool → List Piece
 comma_if b = if b then piece Closed Operator (codes ",") ∷ [] else []
 

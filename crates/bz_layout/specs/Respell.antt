@@ -1,4 +1,5 @@
--- The written form of a token (this project's own rule): a plain string in single quotes gets double quotes, anything else stands as it is.
+-- The written form of a token (this project's own rule): a plain string in single quotes gets double quotes, anything else
+-- stands as it is.
 -- Begin with `respell`.
 use Rattle.std.specs.Prelude.{ℕ, ◌-◌, List, [], ◌∷◌, ◌++◌, Bool, not, ◌&&◌, ◌==◌, if◌then◌else◌, length, take, drop}
 use Rattle.std.specs.List.{list_all}
@@ -18,6 +19,7 @@ content text = drop 1 (take (length text - 1) text)
 abbrev pub is_single : List ℕ → Bool
 is_single text = bytes_eq text (39 ∷ (content text ++ 39 ∷ [])) && list_all is_plain (content text)
 
+-- the text of a token as it is written
 abbrev pub respell : Kind → List ℕ → List ℕ
 respell String text = if is_single text then 34 ∷ (content text ++ 34 ∷ []) else text
 respell _ text = text

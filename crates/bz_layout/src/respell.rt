@@ -1,6 +1,6 @@
 //! How a string is written.
 
-ghost use Rattle.std.specs.Prelude.{◌≡◌, ◌++◌, ◌∷◌, [], List, ℕ, true, false, IfSome, IfNone};
+ghost use Rattle.std.specs.Prelude.{◌≡◌, ◌++◌, ◌∷◌, [], List, ℕ, true, false, IfSome, IfNone, IsTrue};
 ghost use Rattle.std.specs.List.{list_all};
 ghost use Rattle.bz_token.specs.declared.token.Kind.TheVariants.{String};
 ghost use Rattle.bz_layout.specs.Respell.{is_plain, respell};
@@ -47,6 +47,14 @@ fn put_single<T: Append>(text: &str, out: &mut T) -> Result<(), NoMemory>
         }
         None => out.put(text),
     }
+}
+
+// Whether a token is written as it stands; not told of each that is.
+#[inline(always)]
+pub(crate) fn stays(kind: Kind, text: &str) -> bool
+    ensures { IsTrue result → respell kind text.now ≡ text.now }
+{
+    !matches!((kind, text.as_bytes()), (Kind::String, [b'\'', ..]))
 }
 
 // Appends the written form of a token.

@@ -2,7 +2,8 @@
 
 ghost use Rattle.std.specs.Prelude.{◌≡◌, ◌≢◌, ◌∷◌, [], ◌||◌, MatchBool};
 ghost use Rattle.bz_tree.specs.Tree.{leaf};
-ghost use Rattle.bz_layout.specs.Spacing.{hugs, closes_up, is_prefix, begins_argument, is_index_colon, operator_edge, edge_after};
+ghost use Rattle.bz_layout.specs.Spacing.{hugs};
+ghost use Rattle.bz_layout.specs.Walked.{closes_up, is_prefix, begins_argument, is_index_colon, operator_edge, edge_after};
 
 use bz_token::Kind;
 use bz_tree::GroupKind;

@@ -1,17 +1,18 @@
 //! The walk forwards over the parts of a statement, which writes them: on lines for `row.rt`, on one line for
 //! `flat_text.rt`.
 
-ghost use Rattle.std.specs.Prelude.{◌≡◌, ◌<◌, ◌^◌, ◌+◌, ◌++◌, ℕ, List, true, IfOk, map, reverse};
-ghost use Rattle.bz_token.specs.declared.token.Kind.TheVariants.{Integer};
+ghost use Rattle.std.specs.Prelude.{◌≡◌, ◌<◌, ◌^◌, ◌+◌, ◌++◌, ℕ, List, true, IfOk, IsTrue, map, reverse};
+ghost use Rattle.bz_token.specs.declared.token.Kind.{Kind};
 ghost use Rattle.bz_tree.specs.Rows.{part_view};
 ghost use Rattle.bz_layout.specs.declared.spacing.Edge.TheVariants.{Start};
 ghost use Rattle.bz_layout.specs.Pieces.{gap_bytes};
-ghost use Rattle.bz_layout.specs.Spacing.{gap_for};
+ghost use Rattle.bz_layout.specs.Respell.{respell};
+ghost use Rattle.bz_layout.specs.Walked.{gap_for};
 ghost use Rattle.bz_layout.specs.private.RowLayout.{Puts, Lays, LaysAlso, due, top, first_gap, start, with_token, opened, closed_by, ended, step, run, laid};
 
 use crate::append::NewLine;
 use crate::marks::BracketForm;
-use crate::respell::put_written;
+use crate::respell::{put_written, stays};
 use crate::spacing::{Edge, Gap, hugs, is_byte, token_closes_up, token_edge};
 use crate::write::{brackets, put};
 use bumpalo::Bump;
@@ -114,9 +115,28 @@ impl<'b> RowWriter<'b> {
         self.put_token(kind, text, out)
     }
 
-    // The numbers that the parts begin with, each with the end of its segment. Answers how many parts were written.
-    #[inline(never)]
-    fn numbers<T: NewLine>(&self, parts: &[Part<'_>], out: &mut T) -> Result<usize, NoMemory>
+    // Whether each segment here has a line and a comma, and none of it is written yet.
+    #[inline(always)]
+    fn begins_item(&self) -> bool
+        ensures { IsTrue result → (self.now.left ≡ Start)
+            × (self.now.here.mark.broken ≡ true) × (self.now.here.mark.comma ≡ true) }
+    {
+        matches!(
+            (self.left, self.here.mark),
+            (
+                Edge::Start,
+                BracketForm {
+                    broken: true,
+                    comma: true,
+                },
+            )
+        )
+    }
+
+    // The tokens that the parts begin with and that stay, each with the end of its segment. Answers how many parts were
+    // written.
+    #[inline(always)]
+    fn items<T: NewLine>(&self, parts: &[Part<'_>], out: &mut T) -> Result<usize, NoMemory>
         requires start { self.now.left ≡ Start }
         requires broken { self.now.here.mark.broken ≡ true }
         requires comma { self.now.here.mark.comma ≡ true }
@@ -125,44 +145,35 @@ impl<'b> RowWriter<'b> {
     {
         let level = self.level;
         let mut rest = parts;
-        while let [Part::Token(Kind::Integer, text), Part::End, after @ ..] = rest {
+        while let [Part::Token(kind, text), Part::End, after @ ..] = rest
+            && stays(*kind, text)
+        {
             out.put_item(level, text)?;
             rest = after;
         }
         Ok(parts.len() - rest.len())
     }
 
-    // A number; where it stands on a line of its own and a comma is written there, also the end of its segment and the
-    // numbers after it that stand so. Answers how many parts after it were written.
+    // A token that stays, with the end of its segment, and those after it that the parts begin with.
     #[inline(always)]
-    fn number<T: NewLine>(
-        &mut self,
+    fn item<T: NewLine>(
+        &self,
         text: &str,
-        after: &[Part<'_>],
+        parts: &[Part<'_>],
         out: &mut T,
     ) -> Result<usize, NoMemory>
-        ensures { LaysAlso result (with_token Integer text.now) (map part_view after.now)
-            self.old (T.bytes out.old) self.new (T.bytes out.new) }
+        requires start { self.now.left ≡ Start }
+        requires broken { self.now.here.mark.broken ≡ true }
+        requires comma { self.now.here.mark.comma ≡ true }
+        ensures { (kind : Kind) → respell kind text.now ≡ text.now
+            → LaysAlso result (λ s. ended (with_token kind text.now s)) (map part_view parts.now)
+            self.now (T.bytes out.old) self.now (T.bytes out.new) }
     {
-        match (after, self.left, self.here.mark) {
-            (
-                [Part::End, rest @ ..],
-                Edge::Start,
-                BracketForm {
-                    broken: true,
-                    comma: true,
-                },
-            ) => {
-                out.put_item(self.level, text)?;
-                Ok(1 + self.numbers(rest, out)?)
-            }
-            _ => {
-                self.put_token(Kind::Integer, text, out)?;
-                Ok(0)
-            }
-        }
+        out.put_item(self.level, text)?;
+        self.items(parts, out)
     }
 
+    // Where it is all of a segment on a line of its own, also the end of that and the segments after it that are so.
     // The tokens that most statements are made of are told apart once. The code for a text that is known is short.
     // Answers how many parts after it were written.
     #[inline(always)]
@@ -176,8 +187,14 @@ impl<'b> RowWriter<'b> {
         ensures { LaysAlso result (with_token kind text.now) (map part_view after.now)
             self.old (T.bytes out.old) self.new (T.bytes out.new) }
     {
+        if self.begins_item()
+            && let [Part::End, rest @ ..] = after
+            && stays(kind, text)
+        {
+            return Ok(1 + self.item(text, rest, out)?);
+        }
         match kind {
-            Kind::Integer => return self.number(text, after, out),
+            Kind::Integer => self.put_token(Kind::Integer, text, out),
             Kind::Identifier => self.put_token(Kind::Identifier, text, out),
             Kind::String => self.put_token(Kind::String, text, out),
             Kind::Operator if is_byte(text, b'=') => self.put_token(Kind::Operator, "=", out),
@@ -245,7 +262,7 @@ impl<'b> RowWriter<'b> {
         Ok(())
     }
 
-    // Writes a part, and with a number perhaps some after it. Answers how many after it were written.
+    // Writes a part, and with a token perhaps some after it. Answers how many after it were written.
     #[inline(always)]
     fn step<T: NewLine>(
         &mut self,
@@ -281,9 +298,10 @@ impl<'b> RowWriter<'b> {
         requires { self.old.level ≡ 0 }
         ensures { Lays result (run (map part_view parts.now)) self.old (T.bytes out.old) self.new (T.bytes out.new) }
     {
-        let mut at = 0;
-        while at < parts.len() {
-            at += 1 + self.step(&parts[at], &parts[at + 1..], out)?;
+        let mut rest = parts;
+        while let [part, after @ ..] = rest {
+            let more = self.step(part, after, out)?;
+            rest = &after[more..];
         }
         Ok(())
     }

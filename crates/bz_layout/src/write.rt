@@ -3,7 +3,8 @@
 ghost use Rattle.std.specs.Prelude.{◌≡◌, ◌++◌};
 ghost use Rattle.bz_layout.specs.Pieces.{indent, gap_bytes};
 ghost use Rattle.bz_layout.specs.declared.spacing.Gap.TheVariants.{Line};
-ghost use Rattle.bz_layout.specs.Layout.{opening, closing, has_commas};
+ghost use Rattle.bz_layout.specs.Layout.{has_commas};
+ghost use Rattle.bz_layout.specs.Walked.{opening, closing};
 ghost use Rattle.bz_layout.specs.private.RowLayout.{Puts};
 
 use crate::append::Append;

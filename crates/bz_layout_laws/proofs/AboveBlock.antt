@@ -1,5 +1,5 @@
 -- The comments above a block pass a test that comments among its tokens pass. So they are comments, and UTF-8 where the chunk is.
-use Rattle.std.proofs.Common.{◌≡◌, ℕ, List, [], ◌∷◌, Bool, true, refl, sym, ap, subst}
+use Rattle.std.proofs.Common.{◌≡◌, ℕ, List, [], ◌∷◌, Bool, true, refl, sym, ap, subst, ◌∙◌}
 use Rattle.std.specs.List.{list_all}
 use Rattle.std.specs.Str.{IsUtf8, is_utf8}
 use Rattle.std.proofs.lemmas.Bool.{and_parts}
@@ -9,7 +9,8 @@ use Rattle.bz_layout_laws.proofs.Deeper.{tokens_are_texts}
 use Rattle.bz_token.proofs.Quiet.{both}
 use Rattle.bz_tree.specs.declared.tree.kinds.Mark.{Mark}
 use Rattle.bz_tree.specs.declared.tree.kinds.Mark.TheVariants.{Open, Close, Comma, Comment, Newline, Plain}
-use Rattle.bz_tree.specs.Blocks.{above_at, above, IsBlockOf}
+use Rattle.bz_tree.specs.Blocks.{above, IsBlockOf}
+use Rattle.bz_tree.proofs.Trees.LogicalLines.{above_at, above_by_token, above_is}
 use Rattle.bz_tree.specs.Chunk.{IsOneOf}
 use Rattle.bz_tree.specs.Kinds.{mark_of}
 use Rattle.bz_tree.specs.Tree.{Statement}
@@ -29,11 +30,14 @@ one_passes q (Close shape) text later here rest = refl
 one_passes q Comma text later here rest = refl
 one_passes q Plain text later here rest = refl
 
-above_pass : (test : Placed → Bool) (q : List ℕ → Bool) → Passed test q → (ts : List Placed) → list_all test ts ≡ true → list_all q (above ts) ≡ true
-above_pass test q passed [] h = refl
-above_pass test q passed (t ∷ ts) h =
+each_passes : (test : Placed → Bool) (q : List ℕ → Bool) → Passed test q → (ts : List Placed) → list_all test ts ≡ true → list_all q (above_by_token ts) ≡ true
+each_passes test q passed [] h = refl
+each_passes test q passed (t ∷ ts) h =
     let p = and_parts (test t) (list_all test ts) h in
-    one_passes q (mark_of t) t.text (above ts) (λ e. passed t e p.0) (above_pass test q passed ts p.1)
+    one_passes q (mark_of t) t.text (above_by_token ts) (λ e. passed t e p.0) (each_passes test q passed ts p.1)
+
+above_pass : (test : Placed → Bool) (q : List ℕ → Bool) → Passed test q → (ts : List Placed) → list_all test ts ≡ true → list_all q (above ts) ≡ true
+above_pass test q passed ts h = ap (list_all q) (above_is ts) ∙ each_passes test q passed ts h
 
 pub block_of : (first depth : ℕ) (bytes : List ℕ) (s : Statement) → (b : IsBlockIn first depth bytes s) → IsBlockOf first bytes b.tokens s
 block_of first depth bytes s b = subst (λ w. IsOneOf w first bytes b.tokens s) b.begins b.reads.chunk

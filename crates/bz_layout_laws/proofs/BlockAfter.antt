@@ -4,7 +4,7 @@ use Rattle.std.proofs.lemmas.Bool.{cases_Bool}
 use Rattle.bz_token.specs.declared.cutter.scan.LineKind.TheVariants.{Blank}
 use Rattle.bz_token.specs.declared.cutter.scan.Scan.{Scan}
 use Rattle.bz_token.specs.declared.cutter.block.Opener.{Opener}
-use Rattle.bz_token.specs.Blocks.{is_white, goes_on}
+use Rattle.bz_token.specs.Blocks.{goes_on}
 use Rattle.bz_token.specs.LogicalLines.{Line, lines}
 use Rattle.bz_token.specs.private.CutSteps.{is_ended, is_broken, line_at, line_here, outside, next, start}
 use Rattle.bz_token.proofs.CutLaws.{EndsRight, ends_right, first_word}
@@ -12,6 +12,7 @@ use Rattle.bz_token.proofs.CutLines.{lines_are}
 use Rattle.bz_token.proofs.CutSeen.{seen_lines, final_kind}
 use Rattle.bz_token.proofs.CutStrings.{seen_step}
 use Rattle.bz_layout_laws.proofs.BlockLines.{same_branch}
+use Rattle.bz_token.specs.Pieces.{is_white}
 
 line_cut : (s : Scan) (seen : List ℕ) (b : ℕ) (bs : List ℕ) → is_ended s.inside ≡ true → seen_lines s seen (b ∷ bs) ≡ line_here s seen ∷ seen_lines (next s b) (b ∷ []) bs
 line_cut s seen b bs h = rw (h, seen_lines) refl
@@ -81,6 +82,6 @@ begun b bs =
       lines_are = lines_are (b ∷ bs) ∙ f.lines_are;
       goes = λ word.
           ap (goes_on word) f.text_is
-          ∙ ap (λ t. is_white b || t) (same_branch word (b ∷ f.more) (b ∷ (f.more ++ f.rest)) (first_word b f.more f.rest f.ends))
+          ∙ ap (λ t. is_white true b || t) (same_branch word (b ∷ f.more) (b ∷ (f.more ++ f.rest)) (first_word b f.more f.rest f.ends))
           ∙ ap (λ xs. goes_on word (b ∷ xs)) (sym f.bytes_are);
     }

@@ -5,11 +5,12 @@ use Rattle.std.specs.Str.{bytes_eq}
 use Rattle.std.proofs.lemmas.Bool.{false≢true, and_parts}
 use Rattle.std.proofs.lemmas.Bool.Decides.{nat_tests}
 use Rattle.std.specs.Option.{option_or}
+use Rattle.bz_token.proofs.Units.{gap_step}
 use Rattle.bz_token.specs.declared.token.Kind.{Kind}
 use Rattle.bz_token.specs.declared.token.Kind.TheVariants.{Operator, Newline, Comment}
 use Rattle.bz_token.specs.Places.{Placed, line_at}
 use Rattle.bz_token.specs.Brackets.{is_inside, open_after_token}
-use Rattle.bz_token.specs.Reading.{is_white, is_gap, continues_gap, feeds_gap, Piece, IsReading, tokens_of, AreTokensOf}
+use Rattle.bz_token.specs.Reading.{is_gap, Piece, IsReading, tokens_of, AreTokensOf}
 use Rattle.bz_tree.specs.declared.tree.kinds.Shape.TheVariants.{Round, Square, Curly}
 use Rattle.bz_tree.specs.declared.tree.kinds.Mark.TheVariants.{Open, Close, Comma, Plain}
 use Rattle.bz_tree.specs.Tree.{Statement}
@@ -17,7 +18,8 @@ use Rattle.bz_tree.specs.Kinds.{operator_mark, kind_mark, mark_of}
 use Rattle.bz_tree.specs.Brackets.{is_line, without_lines}
 use Rattle.std.specs.List.{last_or as last_of}
 use Rattle.bz_tree.specs.Statement.{is_aside, bare_tokens}
-use Rattle.bz_tree.specs.Blocks.{IsAt, IsKeptText, above_at, above, IsBlockOf}
+use Rattle.bz_tree.specs.Blocks.{IsAt, IsKeptText, IsBlockOf}
+use Rattle.bz_tree.proofs.Trees.LogicalLines.{above_at, above_by_token, above_is}
 use Rattle.bz_tree.specs.Comments.{comment_of, comments_among}
 use Rattle.bz_layout_laws.specs.BlockComments.{AreWritten, AreKept}
 use Rattle.bz_layout_laws.proofs.KeptSame.{kept_same}
@@ -25,6 +27,8 @@ use Rattle.bz_tree.proofs.Trees.Sound.{none_is_some, some_injective}
 use Rattle.bz_tree.proofs.Trees.LastToken.{last_or}
 use Rattle.bz_tree.proofs.Trees.Standing.{none_empty, later_last}
 use Rattle.bz_token.specs.Common.{first_of}
+use Rattle.bz_token.specs.Pieces.{is_white}
+use Rattle.bz_token.specs.private.Gaps.{continues_gap, feeds_gap}
 
 -- a gap outside brackets is one inside
 white_inside : (inside : Bool) (b : ℕ) → is_white inside b ≡ true → is_white true b ≡ true
@@ -37,14 +41,14 @@ slash_white b h = grind (arith, nat_tests)
 mutual
   gap_inside : (inside : Bool) (bs : List ℕ) → is_gap inside bs ≡ true → is_gap true bs ≡ true
   gap_inside inside [] h = refl
-  gap_inside inside (b ∷ bs) h = at_white (is_white inside b) refl (gap_inside inside bs) (continues_inside inside bs) h
+  gap_inside inside (b ∷ bs) h = at_white (is_white inside b) refl (gap_inside inside bs) (continues_inside inside bs) (sym (gap_step inside b bs) ∙ h)
     where
       at_white : (w : Bool) → is_white inside b ≡ w → (is_gap inside bs ≡ true → is_gap true bs ≡ true) → (continues_gap inside bs ≡ true → continues_gap true bs ≡ true)
           → elim w [ true ↦ is_gap inside bs | false ↦ b == 92 && continues_gap inside bs ] ≡ true → is_gap true (b ∷ bs) ≡ true
-      at_white true white more slash h = ap (λ w. elim w [ true ↦ is_gap true bs | false ↦ b == 92 && continues_gap true bs ]) (white_inside inside b white) ∙ more h
+      at_white true white more slash h = gap_step true b bs ∙ ap (λ w. elim w [ true ↦ is_gap true bs | false ↦ b == 92 && continues_gap true bs ]) (white_inside inside b white) ∙ more h
       at_white false white more slash h =
           let parts = and_parts (b == 92) (continues_gap inside bs) h in
-          ap (λ w. elim w [ true ↦ is_gap true bs | false ↦ b == 92 && continues_gap true bs ]) (slash_white b parts.0) ∙ ap (λ e. e && continues_gap true bs) parts.0 ∙ slash parts.1
+          gap_step true b bs ∙ ap (λ w. elim w [ true ↦ is_gap true bs | false ↦ b == 92 && continues_gap true bs ]) (slash_white b parts.0) ∙ ap (λ e. e && continues_gap true bs) parts.0 ∙ slash parts.1
 
   continues_inside : (inside : Bool) (bs : List ℕ) → continues_gap inside bs ≡ true → continues_gap true bs ≡ true
   continues_inside inside [] h = h
@@ -126,7 +130,7 @@ record FromHeader (tokens : List Placed) (header last : Placed) : Type 0 where
   more : List Placed
   tokens_are : tokens ≡ front ++ (header ∷ more)
   asides : bare_tokens front ≡ []
-  comments : above tokens ≡ comments_among front
+  comments : above_by_token tokens ≡ comments_among front
   is_last : last_of None (without_lines (header ∷ more)) ≡ Some last
 
 from_header : (tokens : List Placed) (header last : Placed) → first_of (bare_tokens tokens) ≡ Some header → last_of None (without_lines tokens) ≡ Some last → FromHeader tokens header last
@@ -142,7 +146,7 @@ from_header (t ∷ ts) header last some is = at_kind (is_aside t.kind) refl (λ 
           more = h.more;
           tokens_are = ap (λ l. t ∷ l) h.tokens_are;
           asides = ap (λ b. cond b (bare_tokens h.front) (t ∷ bare_tokens h.front)) e ∙ h.asides;
-          comments = above_aside t.kind t.text (above ts) e ∙ ap (λ l. comment_of (mark_of t) t.text ++ l) h.comments;
+          comments = above_aside t.kind t.text (above_by_token ts) e ∙ ap (λ l. comment_of (mark_of t) t.text ++ l) h.comments;
           is_last = h.is_last;
         }
     at_kind false e more some =
@@ -152,7 +156,7 @@ from_header (t ∷ ts) header last some is = at_kind (is_aside t.kind) refl (λ 
           more = ts;
           tokens_are = ap (λ x. x ∷ ts) same;
           asides = refl;
-          comments = above_counted t.kind t.text (above ts) e;
+          comments = above_counted t.kind t.text (above_by_token ts) e;
           is_last = ap (λ x. last_of None (without_lines (x ∷ ts))) (sym same) ∙ is;
         }
 
@@ -233,7 +237,7 @@ kept_parts first bytes rest tokens s a h from l parts end =
       only_aside = h.asides;
       begins = sym (first_in l.front a.last l.newlines) ∙ sym (ap first_of l.tokens_are) ∙ sym a.is_header;
       only_newlines = l.only;
-      comments_are = ap (λ (x : Statement). x.before) a.is ∙ h.comments;
+      comments_are = ap (λ (x : Statement). x.before) a.is ∙ above_is tokens ∙ h.comments;
       no_suffix = ap (λ (x : Statement). x.suffix) a.is;
       kept = a.kept;
       node_is = ap (λ (x : Statement). x.nodes) a.is;

@@ -4,6 +4,7 @@ use Rattle.std.specs.Prelude.{if◌then◌else◌}
 use Rattle.std.specs.List.{list_all, prefix_len}
 use Rattle.std.proofs.lemmas.Bool.{cases_Bool, and_parts, and_from, false≢true, eqb-true}
 use Rattle.std.proofs.lemmas.List.Folds.{list_all-append}
+use Rattle.bz_token.proofs.Units.{gap_step}
 use Rattle.bz_token.specs.declared.token.Kind.{Kind}
 use Rattle.bz_token.specs.declared.token.Kind.TheVariants.{Newline as LineKind, Comment}
 use Rattle.bz_token.specs.declared.cutter.scan.LineKind.{LineKind as Form}
@@ -12,10 +13,10 @@ use Rattle.bz_token.specs.Brackets.{is_line}
 use Rattle.bz_token.specs.Chunks.{after_comments}
 use Rattle.bz_token.specs.Ends.{is_comment_kind, ends}
 use Rattle.bz_token.specs.FreshStart.{ends_in_line}
-use Rattle.bz_token.specs.Lexical.{is_blank, is_newline}
+use Rattle.bz_token.specs.Lexical.{is_newline}
 use Rattle.bz_token.specs.LogicalLines.{Line}
 use Rattle.bz_token.specs.Places.{column_from, column_at}
-use Rattle.bz_token.specs.Reading.{is_gap, continues_gap, Piece, bytes_of}
+use Rattle.bz_token.specs.Reading.{is_gap, Piece, bytes_of}
 use Rattle.bz_token.proofs.Joins.{line_text}
 use Rattle.bz_token.proofs.Progress.{column_from-append}
 use Rattle.bz_token.specs.ChunkForms.{are_comments, is_rest}
@@ -28,6 +29,8 @@ use Rattle.bz_layout_laws.proofs.BlockLines.{cut_line, keep_line}
 use Rattle.bz_layout_laws.proofs.BlockParts.{is_aside_piece}
 use Rattle.bz_token.specs.Lexical.{is_text}
 use Rattle.bz_token.specs.Common.{is_empty}
+use Rattle.bz_token.specs.Pieces.{is_blank}
+use Rattle.bz_token.specs.private.Gaps.{continues_gap}
 
 -- nothing but white space stands before the line's end
 abbrev is_blank_line : List ℕ → Bool
@@ -42,9 +45,9 @@ no_comment [] kind text after h word = word_on_line kind text after word
 no_comment (b ∷ bs) kind text after h word = elim (cases_Bool (is_blank b)) [
   | inl blank ↦
       let line = blank_no_line b blank in
-      rw (line, one-add) (rw blank (no_comment bs kind text after (rw (blank, is_gap) at h) word))
+      rw (line, one-add) (rw blank (no_comment bs kind text after (rw blank at (sym (gap_step false b bs) ∙ h)) word))
   | inr other ↦
-      let p = and_parts (b == 92) (continues_gap false bs) (rw (other, is_gap) at h) in
+      let p = and_parts (b == 92) (continues_gap false bs) (rw other at (sym (gap_step false b bs) ∙ h)) in
       let same : b ≡ 92 = eqb-true b 92 p.0 in
       rw same (rw one-add refl)
 ]

@@ -1,22 +1,23 @@
 -- A line that begins in column 1 with a block's word is the head of a block.
-use Rattle.std.proofs.Common.{◌≡◌, ℕ, ◌+◌, ◌==◌, ◌≤◌, ◌||◌, List, [], ◌∷◌, ◌++◌, true, false, Some, refl, sym, ap, subst, ◌∙◌, inl, inr, arith}
-use Rattle.std.specs.Prelude.{codes, bytes_eq}
-use Rattle.std.proofs.lemmas.Bool.{cases_Bool, and_parts, or_cases, false≢true, eqb-true}
+use Rattle.std.proofs.Common.{◌≡◌, ℕ, ◌+◌, ◌==◌, ◌≤◌, List, [], ◌∷◌, ◌++◌, true, false, Some, refl, sym, ap, ◌∙◌, inl, inr, arith}
+use Rattle.std.specs.Prelude.{codes}
+use Rattle.std.proofs.lemmas.Bool.{cases_Bool, and_parts, false≢true, eqb-true}
 use Rattle.std.proofs.lemmas.Bool.Decides.{nat_tests}
+use Rattle.bz_token.proofs.Units.{gap_step, opener_is}
 use Rattle.bz_token.specs.declared.token.Kind.{Kind}
 use Rattle.bz_token.specs.declared.token.Kind.TheVariants.{Keyword}
 use Rattle.bz_token.specs.declared.cutter.block.Opener.{Opener}
 use Rattle.bz_token.specs.declared.cutter.block.Opener.TheVariants.{Def, For, If}
-use Rattle.bz_token.specs.Blocks.{head_from, word_at, opener_of, opener, goes_on}
+use Rattle.bz_token.specs.Blocks.{word_at, opener_of, opener, goes_on}
 use Rattle.bz_token.specs.Brackets.{is_line}
 use Rattle.bz_token.specs.Ends.{is_comment_kind, ends}
-use Rattle.bz_token.specs.Lexical.{is_blank}
+use Rattle.bz_token.specs.private.Gaps.{head_from, continues_gap, feeds_gap}
 use Rattle.bz_token.specs.Places.{column_from}
-use Rattle.bz_token.specs.Reading.{is_gap, continues_gap, feeds_gap}
-use Rattle.bz_token.proofs.Classes.{same_bytes}
+use Rattle.bz_token.specs.Reading.{is_gap}
 use Rattle.bz_tree.specs.Blocks.{is_block_word_at}
 use Rattle.bz_tree.proofs.Trees.Standing.{by_opener}
 use Rattle.bz_layout_laws.proofs.BranchWords.{other_word, stops_word, whole_word}
+use Rattle.bz_token.specs.Pieces.{is_blank}
 
 -- what holds of the three words holds of a word that begins a block
 pub by_word : (P : List ℕ → Type 0) (kind : Kind) (text : List ℕ) → is_block_word_at kind text ≡ true → P (codes "def") → P (codes "for") → P (codes "if") → P text
@@ -59,9 +60,9 @@ mutual
   gap_head column (b ∷ bs) x some h = elim (cases_Bool (is_blank b)) [
     | inl blank ↦
         let line = blank_no_line b blank in
-        rw (blank, line, head_from) (ap (λ f. head_from f (bs ++ x)) (sym (later_column column some)) ∙ gap_head (column + 1) bs x (omega arith) (rw (blank, is_gap) at h))
+        rw (blank, line, head_from) (ap (λ f. head_from f (bs ++ x)) (sym (later_column column some)) ∙ gap_head (column + 1) bs x (omega arith) (rw blank at (sym (gap_step false b bs) ∙ h)))
     | inr other ↦
-        let p = and_parts (b == 92) (continues_gap false bs) (rw (other, is_gap) at h) in
+        let p = and_parts (b == 92) (continues_gap false bs) (rw other at (sym (gap_step false b bs) ∙ h)) in
         let same : b ≡ 92 = eqb-true b 92 p.0 in
         rw same (slash_head column bs x p.1)
   ]
@@ -91,5 +92,6 @@ head_word kind text after h stop =
 pub head_opens : (gap : List ℕ) (kind : Kind) (text after : List ℕ) → is_gap false gap ≡ true → column_from 1 gap ≡ 1 → is_block_word_at kind text ≡ true → stops_word after ≡ true
     → opener (gap ++ (text ++ after)) ≡ opener_of text
 head_opens gap kind text after h column word stop =
+    opener_is (gap ++ (text ++ after)) ∙
     ap (λ x. opener_of (word_at x)) (gap_head 1 gap (text ++ after) (omega arith) h ∙ ap (λ n. head_from (n == 1) (text ++ after)) column)
     ∙ head_word kind text after word stop

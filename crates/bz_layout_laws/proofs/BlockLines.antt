@@ -6,7 +6,7 @@ use Rattle.std.proofs.lemmas.Bool.{cases_Bool, and_parts, and_from, or_parts, fa
 use Rattle.std.proofs.lemmas.List.Sums.{take_while-cons}
 use Rattle.bz_token.specs.declared.cutter.block.Opener.{Opener}
 use Rattle.bz_token.specs.declared.cutter.block.Opener.TheVariants.{Def, For, If}
-use Rattle.bz_token.specs.Blocks.{is_white, word_at, has_branch, goes_on}
+use Rattle.bz_token.specs.Blocks.{word_at, has_branch, goes_on}
 use Rattle.bz_token.specs.Brackets.{is_line}
 use Rattle.bz_token.specs.Lexical.{is_word_byte}
 use Rattle.bz_token.specs.LogicalLines.{Line}
@@ -16,6 +16,7 @@ use Rattle.bz_layout_laws.proofs.Readable.{bytes_join}
 use Rattle.bz_layout_laws.proofs.BlockTests.{newline}
 use Rattle.bz_layout_laws.proofs.BranchWords.{is_branch, stops_word}
 use Rattle.bz_token.specs.Common.{is_empty}
+use Rattle.bz_token.specs.Pieces.{is_white}
 
 -- lines are cut after a newline piece and nowhere else
 pub cut_line : (line : List Piece) (p : Piece) (ps : List Piece) (rest : List ℕ) → is_line p.kind ≡ true → lines_from line (p ∷ ps) rest ≡ line_of (line ++ p ∷ []) [] ∷ lines_from [] ps rest
@@ -69,14 +70,14 @@ stops_front (x ∷ xs) ys h = h
 newline_goes : (word : Opener) (bytes after : List ℕ) → stops_word after ≡ true → goes_on word (bytes ++ after) ≡ true → goes_on word (bytes ++ 10 ∷ []) ≡ true
 newline_goes word [] after stop h = refl
 newline_goes word (b ∷ bs) after stop h =
-    ap (λ t. is_white b || t) (same_branch word (b ∷ (bs ++ 10 ∷ [])) (b ∷ (bs ++ after)) (same_word (b ∷ bs) (10 ∷ []) after refl stop)) ∙ h
+    ap (λ t. is_white true b || t) (same_branch word (b ∷ (bs ++ 10 ∷ [])) (b ∷ (bs ++ after)) (same_word (b ∷ bs) (10 ∷ []) after refl stop)) ∙ h
 
 -- what goes on with no `if` goes on with no block
 pub goes_less : (word : Opener) (text : List ℕ) → goes_on If text ≡ false → goes_on word text ≡ false
 goes_less word [] h = refl
 goes_less If (b ∷ bs) h = h
-goes_less Def (b ∷ bs) h = ap (λ w. w || false) (or_parts (is_white b) (has_branch If (b ∷ bs)) h).0
-goes_less For (b ∷ bs) h = ap (λ w. w || false) (or_parts (is_white b) (has_branch If (b ∷ bs)) h).0
+goes_less Def (b ∷ bs) h = ap (λ w. w || false) (or_parts (is_white true b) (has_branch If (b ∷ bs)) h).0
+goes_less For (b ∷ bs) h = ap (λ w. w || false) (or_parts (is_white true b) (has_branch If (b ∷ bs)) h).0
 
 newlines_go : (word : Opener) (more : ℕ) → all_go_on word (lines_from [] (replicate more newline) []) ≡ true
 newlines_go word zero = refl

@@ -7,7 +7,7 @@ use Rattle.bz_token.specs.declared.token.Kind.{Kind}
 use Rattle.bz_token.specs.declared.token.Kind.TheVariants.{Newline, Comment as CommentToken}
 use Rattle.bz_token.specs.Brackets.{is_line, fits, open_after_token}
 use Rattle.bz_token.specs.Ends.{ends, stops_at}
-use Rattle.bz_token.specs.Lexical.{is_blank, is_newline, is_text}
+use Rattle.bz_token.specs.Lexical.{is_newline, is_text}
 use Rattle.bz_token.specs.Reading.{is_gap, Piece, open_after, bytes_of}
 use Rattle.bz_token.proofs.Stops.{newline_stops}
 use Rattle.bz_layout_laws.specs.Readable.{are_texts, are_ended, are_fitting}
@@ -23,6 +23,7 @@ use Rattle.bz_layout_laws.proofs.BlockParts.{is_aside_piece, AreParts}
 use Rattle.bz_layout_laws.proofs.NoBrackets.{free_open, other_free}
 use Rattle.bz_layout_laws.proofs.Texts.{both}
 use Rattle.bz_layout_laws.proofs.TokensBack.{layout_read}
+use Rattle.bz_token.specs.Pieces.{is_blank}
 
 -- white space up to a newline stays so where the newline comes earlier
 abbrev blank_to_newline : List ℕ → Bool

@@ -11,7 +11,8 @@ use Rattle.bz_token.proofs.Progress.{column_from-append}
 use Rattle.bz_token.specs.TokenLines.{is_newline_piece}
 use Rattle.bz_layout_laws.proofs.Readable.{bytes_join}
 use Rattle.bz_tree.specs.declared.tree.Class.TheVariants.{Block}
-use Rattle.bz_tree.specs.Blocks.{above_at, above, is_block_word_at}
+use Rattle.bz_tree.specs.Blocks.{above, is_block_word_at}
+use Rattle.bz_tree.proofs.Trees.LogicalLines.{above_at, above_by_token, above_is}
 use Rattle.bz_tree.specs.Kinds.{kind_mark}
 use Rattle.bz_tree.specs.Tree.{leaf, Statement}
 use Rattle.bz_layout.specs.declared.spacing.Gap.TheVariants.{Closed}
@@ -78,9 +79,13 @@ above_counted : (kind : Kind) (text word : List ℕ) (later : List (List ℕ)) �
 above_counted Keyword text word later h = refl
 above_counted _ text word later h = absurd (false≢true h)
 
+each_above : (first : ℕ) (texts : List (List ℕ)) (header : Piece) (ps : List Piece) (before lines : List ℕ) → is_block_word_at header.kind header.text ≡ true
+    → above_by_token (tokens_of first before lines (lines_above texts ++ (header ∷ ps))) ≡ texts
+each_above first [] header ps before lines h = above_counted header.kind header.text header.text _ h
+each_above first (text ∷ texts) header ps before lines h = ap (λ l. text ∷ l) (each_above first texts header ps _ _ h)
+
 pub above_lines : (first : ℕ) (texts : List (List ℕ)) (header : Piece) (ps : List Piece) (before lines : List ℕ) → is_block_word_at header.kind header.text ≡ true → above (tokens_of first before lines (lines_above texts ++ (header ∷ ps))) ≡ texts
-above_lines first [] header ps before lines h = above_counted header.kind header.text header.text _ h
-above_lines first (text ∷ texts) header ps before lines h = ap (λ l. text ∷ l) (above_lines first texts header ps _ _ h)
+above_lines first texts header ps before lines h = above_is (tokens_of first before lines (lines_above texts ++ (header ∷ ps))) ∙ each_above first texts header ps before lines h
 
 lines_aside : (texts : List (List ℕ)) → list_all is_aside_piece (lines_above texts) ≡ true
 lines_aside [] = refl

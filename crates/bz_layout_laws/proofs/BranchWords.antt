@@ -5,18 +5,21 @@ use Rattle.std.specs.List.{list_all}
 use Rattle.std.specs.Char.{is_ascii_digit}
 use Rattle.std.proofs.lemmas.Bool.{cases_Bool, and_parts, false≢true, eqb-true}
 use Rattle.std.proofs.lemmas.List.Sums.{take_while-cons}
+use Rattle.bz_token.proofs.Openings.{opens_plain}
+use Rattle.bz_token.specs.private.Closing.{is_closed}
 use Rattle.bz_token.specs.declared.token.Kind.{Kind}
 use Rattle.bz_token.specs.declared.token.Kind.TheVariants.{Identifier, Keyword, Integer, String, Operator, Newline, Comment, Kept}
 use Rattle.bz_token.specs.declared.cutter.block.Opener.TheVariants.{If}
-use Rattle.bz_token.specs.Pieces.{is_quote}
-use Rattle.bz_token.specs.Lexical.{is_name, is_keyword, is_string, IsToken, is_word_byte}
+use Rattle.bz_token.specs.Strings.{is_quote, is_string}
+use Rattle.bz_token.specs.Lexical.{is_name, is_keyword, IsToken, is_word_byte}
 use Rattle.bz_token.specs.Ends.{stops_at, is_prefix}
 use Rattle.bz_token.specs.Brackets.{is_line}
-use Rattle.bz_token.specs.Blocks.{is_white, word_at, goes_on}
+use Rattle.bz_token.specs.Blocks.{word_at, goes_on}
 use Rattle.bz_token.proofs.Classes.{can_start, class_of, text_class, keyword_name, empty_no_text}
 use Rattle.bz_token.proofs.Stops.{token_ends}
 use Rattle.bz_token.proofs.Agree.{visible}
 use Rattle.bz_token.proofs.Stands.{apart}
+use Rattle.bz_token.specs.Pieces.{is_white}
 
 abbrev pub is_branch : List ℕ → Bool
 is_branch text = bytes_eq text (codes "elif") || bytes_eq text (codes "else")
@@ -49,7 +52,7 @@ whole_word (x ∷ xs) after all stop =
 string_first : (x : ℕ) (text : List ℕ) → is_string (x ∷ text) ≡ true → (x == 101) ≡ false
 string_first x text is = elim (cases_Bool (x == 101)) [
   | inr miss ↦ miss
-  | inl hit ↦ absurd (false≢true (sym (ap (λ y. is_string (y ∷ text)) (eqb-true x 101 hit)) ∙ is))
+  | inl hit ↦ absurd (false≢true (sym (ap (λ o. is_closed o (101 ∷ text)) (opens_plain 101 text refl refl)) ∙ sym (ap (λ y. is_string (y ∷ text)) (eqb-true x 101 hit)) ∙ is))
 ]
 
 first_word : (kind : Kind) (b : ℕ) (bs after : List ℕ) → IsToken kind (b ∷ bs) after → is_branch (b ∷ bs) ≡ false → is_branch (word_at ((b ∷ bs) ++ after)) ≡ false
@@ -85,5 +88,5 @@ no_branch kind [] after token line none = absurd (empty_no_text kind token.whole
 no_branch kind (b ∷ bs) after token line none =
     let blank = visible kind b bs token.whole in
     let newline = apart kind b 10 (text_class kind b bs token.whole) (no_line kind line) in
-    let white : is_white b ≡ false = rw (blank, newline) refl in
+    let white : is_white true b ≡ false = rw (blank, newline) refl in
     ap (λ w. w || is_branch (word_at (b ∷ (bs ++ after)))) white ∙ first_word kind b bs after token none

@@ -3,7 +3,7 @@ use Rattle.std.proofs.Common.{◌≡◌, ℕ, ◌≤◌, List, [], ◌∷◌, �
 use Rattle.std.specs.Prelude.{codes, if◌then◌else◌}
 use Rattle.bz_token.specs.Places.{Placed, line_at}
 use Rattle.bz_token.specs.Reading.{Piece, tokens_of, token_of}
-use Rattle.bz_tree.specs.Brackets.{is_line as is_line_mark, elems_own, without_lines}
+use Rattle.bz_tree.specs.Brackets.{is_line as is_line_mark, without_lines, AreNested}
 use Rattle.bz_tree.specs.Chunk.{IsOneOf, IsPlain, IsStatementIn, indent_at}
 use Rattle.bz_tree.specs.declared.tree.kinds.Preceding.TheVariants.{Other}
 use Rattle.bz_tree.specs.Grammar.{IsStatement}
@@ -62,11 +62,11 @@ comments_read first depth s legible parsed room grammar class =
     let tokens = tokens_back first s in
     let found = statement_reads first depth s tokens legible parsed room (lines_are_tokens first depth (layout_text s) tokens (read_lines first depth s legible room)) in
     let tree = found.1 in
-    let t = statement_with all (segment_of (elems_own Other tree.elems)) in
+    let t = statement_with all (segment_of tree.owns) in
     let same : lineless t ≡ lineless (spelled_statement s) = sym (ap lineless tree.is) ∙ found.2 in
     let none = no_token first s class in
     let plain : IsPlain all t = record {
-      tree = record { elems = tree.elems; tokens_are = seen_same first s ∙ tree.tokens_are; well = tree.well; is = refl };
+      tree = record { owns = tree.owns; nested = subst (λ ts. AreNested Other ts tree.owns) (sym (seen_same first s)) tree.nested; is = refl };
       grammar = grammar_stays s t same grammar;
     } in (
       t,

@@ -19,16 +19,21 @@ use Rattle.bz_tree.specs.declared.tree.kinds.Mark.TheVariants.{Open, Close, Comm
 use Rattle.bz_tree.specs.declared.tree.kinds.Preceding.{Preceding}
 use Rattle.bz_tree.specs.declared.tree.kinds.Preceding.TheVariants.{Other}
 use Rattle.bz_tree.specs.declared.tree.kinds.Shape.TheVariants.{Round, Square, Curly}
-use Rattle.bz_tree.specs.Brackets.{Elem, single, bracket, Elems, no_elems, elem, elems_tokens, own_items, own_of, preceding, elem_own, elems_own, has_for, is_single, is_line, without_lines, AreWell, end_line}
+use Rattle.bz_tree.specs.Brackets.{own_items, preceding, is_line, without_lines, end_line}
+use Rattle.bz_tree.specs.Elements.{has_for}
+use Rattle.bz_tree.specs.Elements.{Elem, single, bracket, Elems, no_elems, elem, elems_tokens, own_of, elem_own, elems_own, is_single, AreWell}
 use Rattle.bz_tree.specs.Kinds.{mark_of, kind_mark, operator_mark, group_kind, is_one}
-use Rattle.bz_tree.specs.Owners.{Own, Last, no_token, end_of_node, end_of_comma, entries_of, inside}
-use Rattle.bz_tree.specs.Statement.{is_rule, rule_call, one_segment, IsStatementOf}
-use Rattle.bz_tree.specs.Tree.{Item, leaf, group, Items, no_items, item, Segs, no_segs, seg, Segment, Statement, items_of, segs_of}
+use Rattle.bz_tree.specs.Owners.{Own}
+use Rattle.bz_tree.specs.Cells.{Last, no_token, end_of_node, end_of_comma, entries_of, inside}
+use Rattle.bz_tree.specs.Statement.{IsStatementOf}
+use Rattle.bz_tree.specs.Elements.{rule_call, one_segment}
+use Rattle.bz_tree.specs.Tree.{Item, leaf, group, Items, no_items, item, Segs, no_segs, seg, Segment, Statement, items_of, segs_of, is_rule}
 use Rattle.bz_layout_laws.specs.Legible.{is_leaf_mark, item_depth, items_depth, segs_depth, depth_of}
 use Rattle.bz_layout_laws.proofs.EachRead.{Each, EachNode, EachSegment, inside_each}
 use Rattle.bz_layout_laws.proofs.NoBrackets.{is_free, free_open, other_free, operator_free}
 use Rattle.bz_layout_laws.proofs.SameTests.{rule_nodes}
 use Rattle.bz_layout_laws.proofs.TextsRead.{is_token_text, ElemsTexts, elems_texts, unlined_texts, comment_text}
+use Rattle.bz_tree.proofs.Trees.Nested.{tree_of}
 
 left_of : (a b n : ℕ) → max a b ≤ n → a ≤ n
 left_of a b n h = omega (arith, h, le-max_left a b)
@@ -276,7 +281,8 @@ segment_depth n [] end h = h
 segment_depth n (s ∷ ss) end h = left_of (items_depth (items_of s.nodes)) (segs_depth (segs_of ss)) n h
 
 pub read_depth : (first depth : ℕ) (bytes : List ℕ) (tokens : List Placed) (t : Statement) → AreTokensOf first depth bytes tokens → IsStatementOf tokens t → depth_of t ≤ depth
-read_depth first depth bytes tokens t are is =
+read_depth first depth bytes tokens t are of =
+    let is = tree_of tokens t of in
     let i = inside (own_items true (elems_own Other is.elems)) in
     let s = one_segment i.segs i.end in
     let whole = tokens_are_texts first depth bytes tokens are in

@@ -5,7 +5,7 @@ use Rattle.std.specs.List.{list_all}
 use Rattle.std.proofs.lemmas.Bool.{false≢true, and_parts}
 use Rattle.bz_token.proofs.Quiet.{both}
 use Rattle.bz_tree.specs.Comments.{beside}
-use Rattle.bz_tree.specs.Owners.{Entry, a_node, a_comma, a_comment, first_cell, other_cells, same_line, later_lines, nodes_in, has_node, comments_in, above_last, beside_last, below_last, cell_segment, with_segment, segments_from, end_from, inside_by_cells}
+use Rattle.bz_tree.specs.Cells.{Entry, a_node, a_comma, a_comment, first_cell, other_cells, same_line, later_lines, nodes_in, has_node, comments_in, above_last, beside_last, below_last, cell_segment, with_segment, segments_from, end_from, inside_by_cells}
 use Rattle.bz_tree.specs.Tree.{Item, Items, no_items, item, Segs, no_segs, seg, Segment, items_of, segs_of}
 use Rattle.bz_layout_laws.specs.Legible.{are_some}
 use Rattle.bz_token.specs.Common.{first_of, is_filled}

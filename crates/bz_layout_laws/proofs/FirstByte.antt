@@ -20,7 +20,8 @@ use Rattle.bz_layout.specs.declared.spacing.Edge.TheVariants.{Start}
 use Rattle.bz_layout.specs.declared.spacing.Gap.TheVariants.{Closed}
 use Rattle.bz_layout.specs.Respell.{is_single, respell}
 use Rattle.bz_layout.specs.Pieces.{Piece, piece, bytes_of, comment_lines, suffix_piece}
-use Rattle.bz_layout.specs.Layout.{opening, is_comment, layout_text}
+use Rattle.bz_layout.specs.Layout.{is_comment, layout_text}
+use Rattle.bz_layout.specs.Walked.{opening}
 use Rattle.bz_layout_laws.specs.FreeLayout.{own, items_by}
 use Rattle.bz_layout_laws.specs.Legible.{IsLegible, AreLegible, are_some}
 use Rattle.bz_layout_laws.specs.ReadPieces.{read_pieces}

@@ -6,6 +6,7 @@ use Rattle.std.proofs.Math.Nat.{le-max_left, le-max_right}
 use Rattle.std.proofs.lemmas.Bool.{and_parts}
 use Rattle.std.proofs.lemmas.Bool.Decides.{nat_tests}
 use Rattle.std.proofs.lemmas.List.{map-append}
+use Rattle.bz_token.proofs.Units.{gap_step}
 use Rattle.bz_token.specs.declared.token.Kind.{Kind}
 use Rattle.bz_token.specs.declared.token.Kind.TheVariants.{Operator as OperatorToken, Newline, Comment}
 use Rattle.bz_token.specs.Lexical.{is_comment}
@@ -21,10 +22,9 @@ use Rattle.bz_layout.specs.declared.spacing.Edge.{Edge}
 use Rattle.bz_layout.specs.declared.spacing.Edge.TheVariants.{Start, Joined, Dotted, Operator, Operand}
 use Rattle.bz_layout.specs.declared.spacing.Gap.{Gap}
 use Rattle.bz_layout.specs.declared.spacing.Gap.TheVariants.{Closed, Space, Apart, Line}
-use Rattle.bz_layout.specs.Spacing.{closes_up, edge_after, gap_before}
-use Rattle.bz_layout.specs.Broken.{count, is_broken, segs_hold}
+use Rattle.bz_layout.specs.Walked.{closes_up, edge_after, gap_before, count, is_broken, segs_hold, opening, closing}
 use Rattle.bz_layout.specs.Pieces.{Piece, piece, indent, gap_bytes, comma_if, comments, comment_lines, suffix_piece}
-use Rattle.bz_layout.specs.Layout.{opening, closing, has_commas, is_comment as is_comment_class}
+use Rattle.bz_layout.specs.Layout.{has_commas, is_comment as is_comment_class}
 use Rattle.bz_layout_laws.specs.FreeLayout.{Choice, breaks_by, inside, following, text_of, item_by, items_by, broken_by, flat_by, statement_by}
 use Rattle.bz_layout_laws.specs.Legible.{AreComments, IsLegibleItem, AreLegible, AreLegibleSegs, IsLegible, is_leaf_mark, item_depth, items_depth, segs_depth, depth_of}
 use Rattle.bz_layout_laws.specs.ReadPieces.{read_piece, read_pieces}
@@ -54,7 +54,12 @@ Stands opened gap = is_gap (is_inside opened) (gap_bytes gap) ≡ true
 -- a new line may stand inside a bracket
 indent_stands : (n : ℕ) → is_gap true (indent n) ≡ true
 indent_stands zero = refl
-indent_stands (suc n) = indent_stands n
+indent_stands (suc n) =
+    gap_step true 32 (32 ∷ 32 ∷ 32 ∷ indent n) ∙ gap_step true 32 (32 ∷ 32 ∷ indent n) ∙ gap_step true 32 (32 ∷ indent n) ∙ gap_step true 32 (indent n)
+    ∙ indent_stands n
+
+line_stands : (level : ℕ) → is_gap true (gap_bytes (Line level)) ≡ true
+line_stands level = gap_step true 10 (indent level) ∙ indent_stands level
 
 fits_free : (depth : ℕ) (opened : List ℕ) (gap : Gap) (kind : Kind) (text : List ℕ) → Stands opened gap → is_free text ≡ true → is_line kind ≡ false → Fits depth opened (piece gap kind text ∷ []) opened
 fits_free depth opened gap kind text stands free line = record {
@@ -108,7 +113,7 @@ comments_fit : (depth : ℕ) (a : ℕ) (opened : List ℕ) (level : ℕ) (texts 
 comments_fit depth a opened level [] h = fits_none
 comments_fit depth a opened level (text ∷ texts) h =
     let p = and_parts (is_comment text) (list_all is_comment texts) h in
-    fits_join (fits_comment depth (a ∷ opened) (Line level) text (indent_stands level) p.0) (comments_fit depth a opened level texts p.1)
+    fits_join (fits_comment depth (a ∷ opened) (Line level) text (line_stands level) p.0) (comments_fit depth a opened level texts p.1)
 
 suffix_fits : (depth : ℕ) (opened : List ℕ) (suffix : Option (List ℕ)) → AreComments (beside suffix) → Fits depth opened (suffix_piece suffix) opened
 suffix_fits depth opened None h = fits_none
@@ -161,7 +166,7 @@ mutual
       let close : List Piece = piece Closed OperatorToken (closing kind) ∷ [] in
       fits_join (fits_opening depth opened gap kind stands (room_first (length opened) (segs_depth segs) depth room))
       (either_way (λ ps. Fits depth o ps opened) (breaks_by c (is_broken kind segs end (segs_hold segs))) (broken_by (inside c) (level + 1) kind comma segs ++ (comments (level + 1) end ++ last)) (flat_by (inside c) level kind true segs ++ (comma_if one_comma ++ close))
-      (fits_join (broken_fits depth (opener kind) opened (inside c) (level + 1) kind comma segs h.0 more) (fits_join (comments_fit depth (opener kind) opened (level + 1) end h.1) (fits_closing depth opened (Line level) kind (indent_stands level))))
+      (fits_join (broken_fits depth (opener kind) opened (inside c) (level + 1) kind comma segs h.0 more) (fits_join (comments_fit depth (opener kind) opened (level + 1) end h.1) (fits_closing depth opened (Line level) kind (line_stands level))))
       (fits_join (flat_fits depth o (inside c) level kind true segs h.0 more) (fits_join (commas_fit depth o one_comma) (fits_closing depth opened Closed kind refl))))
 
   items_fit : (depth : ℕ) (opened : List ℕ) (c : Choice) (level : ℕ) (within : Option GroupKind) (first : Gap) (left : Edge) (xs : Items) → Stands opened first → AreLegible within left xs → length opened + items_depth xs ≤ depth
@@ -177,7 +182,7 @@ mutual
   broken_fits depth a opened c level kind comma (seg before nodes suffix ss) h room =
       let o = a ∷ opened in
       fits_join (comments_fit depth a opened level before h.0)
-      (fits_join (items_fit depth o (inside c) level (Some kind) (Line level) Start nodes (indent_stands level) h.2 (room_left (suc (length opened)) (items_depth nodes) (segs_depth ss) depth room))
+      (fits_join (items_fit depth o (inside c) level (Some kind) (Line level) Start nodes (line_stands level) h.2 (room_left (suc (length opened)) (items_depth nodes) (segs_depth ss) depth room))
       (fits_join (commas_fit depth o comma) (fits_join (suffix_fits depth o suffix h.3) (broken_fits depth a opened (following c) level kind comma ss h.4 (room_right (suc (length opened)) (items_depth nodes) (segs_depth ss) depth room)))))
 
   flat_fits : (depth : ℕ) (opened : List ℕ) (c : Choice) (level : ℕ) (kind : GroupKind) (first : Bool) (ss : Segs) → AreLegibleSegs kind ss → length opened + segs_depth ss ≤ depth → Fits depth opened (flat_by c level kind first ss) opened

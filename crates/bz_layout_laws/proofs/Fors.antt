@@ -7,9 +7,12 @@ use Rattle.bz_token.specs.Places.{Placed}
 use Rattle.bz_tree.specs.declared.tree.kinds.Mark.{Mark}
 use Rattle.bz_tree.specs.declared.tree.kinds.Mark.TheVariants.{Open, Close, Comma, Comment, Newline, Plain}
 use Rattle.bz_tree.specs.declared.tree.kinds.Preceding.{Preceding}
-use Rattle.bz_tree.specs.Brackets.{single, bracket, Elems, no_elems, elem, leaf_of, own_items, own_of, preceding, elems_own, has_for, is_for_item, is_single, AreWell, end_line}
+use Rattle.bz_tree.specs.Brackets.{leaf_of, own_items, preceding, is_for_item, end_line}
+use Rattle.bz_tree.specs.Elements.{has_for}
+use Rattle.bz_tree.specs.Elements.{single, bracket, Elems, no_elems, elem, own_of, elems_own, is_single, AreWell}
 use Rattle.bz_tree.specs.Kinds.{mark_of}
-use Rattle.bz_tree.specs.Owners.{Own, Last, no_token, end_of_node, Entry, a_node, a_comma, a_comment, entries_of}
+use Rattle.bz_tree.specs.Owners.{Own}
+use Rattle.bz_tree.specs.Cells.{Last, no_token, end_of_node, Entry, a_node, a_comma, a_comment, entries_of}
 use Rattle.bz_tree.specs.Tree.{Item, leaf, group, Items, no_items, item, Segs, no_segs, seg, list_of, segments}
 use Rattle.bz_layout_laws.specs.Written.{own_lines, suffix_entry, written_entries}
 use Rattle.bz_layout_laws.specs.Parsed.{is_comma_mark, is_comma, nodes_have_for, have_for}

@@ -6,8 +6,8 @@ use Rattle.bz_token.specs.declared.token.Kind.TheVariants.{Operator, Newline}
 use Rattle.bz_token.specs.Common.{is_filled}
 use Rattle.bz_tree.specs.declared.tree.GroupKind.{GroupKind}
 use Rattle.bz_tree.specs.Tree.{Item, leaf, group, Items, no_items, item, Segs, no_segs, seg, Statement, items_of, segments}
-use Rattle.bz_layout.specs.Broken.{count, is_broken, segs_hold}
-use Rattle.bz_layout.specs.Layout.{opening, closing, has_commas, is_comment}
+use Rattle.bz_layout.specs.Walked.{count, is_broken, segs_hold, opening, closing}
+use Rattle.bz_layout.specs.Layout.{has_commas, is_comment}
 use Rattle.bz_layout_laws.specs.FreeLayout.{Choice, breaks_by, inside, following, text_of}
 use Rattle.bz_layout_laws.specs.Inside.{HasShape}
 use Rattle.bz_layout_laws.specs.Lexemes.{Lexeme, lexeme, comment_lexemes, suffix_lexemes, comma_lexemes, comment_line_lexemes}

@@ -3,8 +3,9 @@ use Rattle.std.proofs.Common.{◌≡◌, ℕ, List, [], ◌∷◌, length, map, 
 use Rattle.std.specs.Prelude.{if◌then◌else◌}
 use Rattle.bz_token.specs.Common.{is_filled}
 use Rattle.bz_token.specs.declared.token.Kind.{Kind}
-use Rattle.bz_tree.specs.Statement.{as_rule_call, class_of, is_rule, rule_call}
-use Rattle.bz_tree.specs.Tree.{Item, leaf, group, Items, no_items, item, Segs, no_segs, seg, Statement, items_of, list_of, segments}
+use Rattle.bz_tree.specs.Statement.{as_rule_call, class_of}
+use Rattle.bz_tree.specs.Elements.{rule_call}
+use Rattle.bz_tree.specs.Tree.{Item, leaf, group, Items, no_items, item, Segs, no_segs, seg, Statement, items_of, list_of, segments, is_rule}
 use Rattle.bz_layout.specs.Respell.{respell}
 use Rattle.bz_layout_laws.specs.FreeLayout.{Choice, own, free, inside, following, text_of, item_spelled_by, items_spelled_by, segs_spelled_by, spelled_by}
 use Rattle.bz_layout_laws.specs.Parsed.{have_for}

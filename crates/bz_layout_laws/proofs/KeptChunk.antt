@@ -2,15 +2,16 @@
 use Rattle.std.proofs.Common.{◌≡◌, ℕ, suc, ◌==◌, ◌&&◌, ◌||◌, List, [], ◌∷◌, ◌++◌, replicate, Bool, true, false, not, Some, refl, sym, ap, ◌∙◌, inl, inr, append_assoc, append-nil}
 use Rattle.std.specs.List.{list_all}
 use Rattle.std.proofs.lemmas.Bool.{cases_Bool, and_parts, or_cases, eqb-true}
+use Rattle.bz_token.proofs.Units.{gap_step}
 use Rattle.bz_token.specs.declared.cutter.block.Opener.{Opener}
 use Rattle.bz_token.specs.Blocks.{opener_of}
 use Rattle.bz_token.specs.Brackets.{is_inside, is_line, fits, open_after_token}
 use Rattle.bz_token.specs.Chunks.{after_comments, block_word, chunks}
 use Rattle.bz_token.specs.Ends.{ends}
-use Rattle.bz_token.specs.Lexical.{is_text, is_blank, is_word_byte}
+use Rattle.bz_token.specs.Lexical.{is_text, is_word_byte}
 use Rattle.bz_token.specs.LogicalLines.{lines}
 use Rattle.bz_token.specs.Places.{column_from}
-use Rattle.bz_token.specs.Reading.{is_white, is_gap, continues_gap, Piece, open_after, bytes_of}
+use Rattle.bz_token.specs.Reading.{is_gap, Piece, open_after, bytes_of}
 use Rattle.bz_token.proofs.Joins.{line_text}
 use Rattle.bz_token.proofs.Progress.{column_from-append}
 use Rattle.bz_token.specs.ChunkForms.{are_of_block, are_more, is_rest}
@@ -30,6 +31,8 @@ use Rattle.bz_layout_laws.proofs.BlockWritten.{lines_above, written, written_pas
 use Rattle.bz_layout_laws.proofs.BranchWords.{stops_word}
 use Rattle.bz_layout_laws.proofs.TokensBack.{comments_end}
 use Rattle.bz_layout_laws.proofs.WholeChunk.{comments_are}
+use Rattle.bz_token.specs.Pieces.{is_blank, is_white}
+use Rattle.bz_token.specs.private.Gaps.{continues_gap}
 
 -- white space and a backslash end a word
 other_byte : (b c : ℕ) → is_word_byte c ≡ false → (b == c) ≡ true → not (is_word_byte b) ≡ true
@@ -44,7 +47,7 @@ blank_stops b h = elim (or_cases (b == 32 || b == 9) (b == 13) h) [
 gap_stops : (inside : Bool) (gap x : List ℕ) → is_gap inside gap ≡ true → stops_word x ≡ true → stops_word (gap ++ x) ≡ true
 gap_stops inside [] x h stop = stop
 gap_stops inside (b ∷ bs) x h stop = elim (cases_Bool (is_white inside b)) [
-  | inr other ↦ other_byte b 92 refl (and_parts (b == 92) (continues_gap inside bs) (rw (other, is_gap) at h)).0
+  | inr other ↦ other_byte b 92 refl (and_parts (b == 92) (continues_gap inside bs) (rw other at (sym (gap_step inside b bs) ∙ h))).0
   | inl white ↦ elim (or_cases (is_blank b) (inside && b == 10) white) [
     | inl blank ↦ blank_stops b blank
     | inr line ↦ other_byte b 10 refl (and_parts inside (b == 10) line).1

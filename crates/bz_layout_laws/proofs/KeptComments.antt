@@ -8,16 +8,24 @@ use Rattle.bz_tree.specs.declared.tree.kinds.Mark.{Mark}
 use Rattle.bz_tree.specs.declared.tree.kinds.Mark.TheVariants.{Open, Close, Comma, Comment as Remark, Newline, Plain}
 use Rattle.bz_tree.specs.declared.tree.kinds.Preceding.{Preceding}
 use Rattle.bz_tree.specs.declared.tree.kinds.Preceding.TheVariants.{Other}
-use Rattle.bz_tree.specs.Tree.{Item, leaf, group, Segment, Statement, items_of, segs_of}
+use Rattle.bz_tree.specs.Tree.{Item, leaf, group, Segment, Statement, items_of, segs_of, is_rule}
 use Rattle.bz_tree.specs.Kinds.{mark_of, group_kind, is_one}
-use Rattle.bz_tree.specs.Owners.{Own, node, comma, comment, Last, no_token, end_of_node, end_of_comma, is_on, Inside, inside, no_empty}
-use Rattle.bz_tree.specs.Brackets.{own_item, own_items, has_for, group_of, Elem, single, bracket, Elems, no_elems, elem, elem_tokens, elems_tokens, elem_own, elems_own, preceding, own_of, is_single, IsWell, AreWell, is_line, without_lines}
-use Rattle.bz_tree.specs.Statement.{one_segment, as_rule_call, rule_call, is_rule, segment_of, statement_with, IsStatementOf}
+use Rattle.bz_tree.specs.Owners.{Own, node, comma, comment, Inside}
+use Rattle.bz_tree.specs.Cells.{Last, no_token, end_of_node, end_of_comma, is_on, inside, no_empty}
+use Rattle.bz_tree.specs.private.KindSteps.{own_item}
+use Rattle.bz_tree.specs.Brackets.{own_items, preceding, is_line, without_lines}
+use Rattle.bz_tree.specs.Elements.{has_for}
+use Rattle.bz_tree.specs.Elements.{group_of}
+use Rattle.bz_tree.specs.Elements.{Elem, single, bracket, Elems, no_elems, elem, elem_tokens, elems_tokens, elem_own, elems_own, own_of, is_single, IsWell, AreWell}
+use Rattle.bz_tree.specs.Statement.{as_rule_call, statement_with, IsStatementOf}
+use Rattle.bz_tree.specs.Elements.{one_segment, rule_call}
+use Rattle.bz_tree.specs.Elements.{segment_of}
 use Rattle.bz_tree.specs.private.Steps.{Walked, at_start, after_node, add_beside, to_last, commented, after_comment, done}
 use Rattle.bz_tree.proofs.Trees.ByOwns.{walk}
 use Rattle.bz_tree.specs.Comments.{Lists, beside, item_owners, items_owners, segs_owners, owners_of, comments_of, comment_of, comments_among, AreDealt, times}
 use Rattle.bz_layout_laws.proofs.Dealt.{Mixed, mixed_swap, mixed_left, mixed_right, mixed_after, mixed_more, left_more, right_more, AreMixed, one_mixed, one_alone, both_mixed, mixed_following, to_end, list_more, lists_more, dealt_of, times_all}
 use Rattle.bz_tree.proofs.Trees.OneBracket.{inside_found, nodes_alone}
+use Rattle.bz_tree.proofs.Trees.Nested.{tree_of}
 
 -- the owners in a list of nodes, and in segments
 abbrev nodes_owners : List Item → Lists
@@ -418,7 +426,8 @@ lines_comments [] = refl
 lines_comments (t ∷ ts) = line_comments (mark_of t) t (without_lines ts) refl ∙ ap (λ l. comment_of (mark_of t) t.text ++ l) (lines_comments ts)
 
 statement_mixed : (tokens : List Placed) (s : Statement) → IsStatementOf tokens s → AreMixed (comments_among tokens) (owners_of s)
-statement_mixed tokens s is =
+statement_mixed tokens s of =
+    let is = tree_of tokens s of in
     let owns = elems_own Other is.elems in
     let mixed : AreMixed (comments_among (elems_tokens is.elems)) (owners_of (statement_with tokens (segment_of owns))) = segment_mixed owns (comments_among (elems_tokens is.elems)) (elems_spelled is.elems Other is.well) in
     let same : comments_among (elems_tokens is.elems) ≡ comments_among tokens = sym (ap comments_among is.tokens_are) ∙ lines_comments tokens in

@@ -9,16 +9,20 @@ use Rattle.bz_tree.specs.declared.tree.kinds.Mark.{Mark}
 use Rattle.bz_tree.specs.declared.tree.kinds.Mark.TheVariants.{Open, Close, Comma, Comment, Newline, Plain}
 use Rattle.bz_tree.specs.declared.tree.kinds.Preceding.{Preceding}
 use Rattle.bz_tree.specs.declared.tree.kinds.Preceding.TheVariants.{Other}
-use Rattle.bz_tree.specs.Brackets.{Elem, single, bracket, Elems, no_elems, elem, own_items, own_of, preceding, elems_own, has_for, is_for_item, is_single, is_paren, IsWell, AreWell, after_item, group_of, end_line}
-use Rattle.bz_tree.specs.Kinds.{mark_of, group_kind, is_one}
-use Rattle.bz_tree.specs.Owners.{Own, node, comma, comment, Last, no_token, end_of_node, end_of_comma, Entry, a_node, a_comma, a_comment, first_cell, other_cells, later_lines, same_line, below_last, nodes_in, cell_segment, with_segment, segments_from, no_empty, Inside, inside, inside_by_cells, entries_of}
+use Rattle.bz_tree.specs.Brackets.{own_items, preceding, is_for_item, is_paren, end_line}
+use Rattle.bz_tree.specs.Elements.{has_for}
+use Rattle.bz_tree.specs.Elements.{group_of}
+use Rattle.bz_tree.specs.Elements.{Elem, single, bracket, Elems, no_elems, elem, own_of, elems_own, is_single, IsWell, AreWell}
+use Rattle.bz_tree.specs.Kinds.{mark_of, group_kind, is_one, after_item}
+use Rattle.bz_tree.specs.Owners.{Own, node, comma, comment, Inside}
+use Rattle.bz_tree.specs.Cells.{Last, no_token, end_of_node, end_of_comma, Entry, a_node, a_comma, a_comment, first_cell, other_cells, later_lines, same_line, below_last, nodes_in, cell_segment, with_segment, segments_from, no_empty, inside, inside_by_cells, entries_of}
 use Rattle.bz_tree.specs.Tree.{Item, Segment, items_of, segs_of}
-use Rattle.bz_layout.specs.Broken.{count}
+use Rattle.bz_layout.specs.Walked.{count}
 use Rattle.bz_layout_laws.specs.Inside.{HasShape}
 use Rattle.bz_layout_laws.specs.Parsed.{is_comma_mark, is_comma, nodes_have_for, have_for, HasKind, HaveKinds, SegsHaveKinds}
 use Rattle.bz_layout_laws.proofs.Fors.{entries_have_for, owns_have_for}
 use Rattle.bz_layout_laws.proofs.ReadSteps.{comma_leaf}
-use Rattle.bz_tree.specs.Statement.{one_segment}
+use Rattle.bz_tree.specs.Elements.{one_segment}
 use Rattle.bz_tree.specs.declared.tree.kinds.Shape.{Shape}
 use Rattle.bz_token.specs.Common.{is_filled}
 

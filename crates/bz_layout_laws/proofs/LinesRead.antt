@@ -6,16 +6,20 @@ use Rattle.bz_token.specs.Places.{Placed}
 use Rattle.bz_tree.specs.declared.tree.kinds.Mark.{Mark}
 use Rattle.bz_tree.specs.declared.tree.kinds.Mark.TheVariants.{Open, Close, Comma, Comment, Newline, Plain}
 use Rattle.bz_tree.specs.declared.tree.kinds.Preceding.TheVariants.{Other}
-use Rattle.bz_tree.specs.Brackets.{single, bracket, Elems, no_elems, elem, elems_tokens, elems_own, own_items, own_of, as_node}
+use Rattle.bz_tree.specs.Brackets.{own_items, as_node}
+use Rattle.bz_tree.specs.Elements.{single, bracket, Elems, no_elems, elem, elems_tokens, elems_own, own_of}
 use Rattle.bz_tree.specs.Kinds.{mark_of}
-use Rattle.bz_tree.specs.Owners.{Own, no_token, Entry, a_node, a_comma, a_comment, first_cell, other_cells, later_lines, same_line, below_last, nodes_in, comments_in, cell_segment, with_segment, segments_from, end_from, inside, entries_of}
-use Rattle.bz_tree.specs.Statement.{is_rule, rule_call, one_segment, first_seen, IsStatementOf}
-use Rattle.bz_tree.specs.Tree.{Item, Segment, Statement}
+use Rattle.bz_tree.specs.Owners.{Own}
+use Rattle.bz_tree.specs.Cells.{no_token, Entry, a_node, a_comma, a_comment, first_cell, other_cells, later_lines, same_line, below_last, nodes_in, comments_in, cell_segment, with_segment, segments_from, end_from, inside, entries_of}
+use Rattle.bz_tree.specs.Statement.{first_seen, IsStatementOf}
+use Rattle.bz_tree.specs.Elements.{rule_call, one_segment}
+use Rattle.bz_tree.specs.Tree.{Item, Segment, Statement, is_rule}
 use Rattle.bz_layout_laws.specs.Parsed.{IsParsed}
 use Rattle.bz_layout_laws.proofs.KindsRead.{no_cells}
 use Rattle.bz_layout_laws.proofs.ParsedRead.{read_kinds}
 use Rattle.bz_layout_laws.proofs.SameTests.{rule_nodes}
 use Rattle.bz_token.specs.Common.{first_of, is_filled}
+use Rattle.bz_tree.proofs.Trees.Nested.{tree_of}
 
 -- each segment has a node
 abbrev pub AreFilled : List Segment → Type 0
@@ -93,11 +97,12 @@ has_lines xs some =
     subst (λ cells. (one_segment (segments_from (first_cell es) cells) (end_from (first_cell es) cells)).nodes ≡ [] → is_filled (one_segment (segments_from (first_cell es) cells) (end_from (first_cell es) cells)).before ≡ true) (sym (no_cells no_token os)) (cell_lines (first_cell es) (some_starts xs some))
 
 pub read_parsed : (tokens : List Placed) (t : Statement) → IsStatementOf tokens t → IsSome (first_seen tokens) → IsParsed t
-read_parsed tokens t is some =
+read_parsed tokens t of some =
+    let is = tree_of tokens t of in
     let i = inside (own_items true (elems_own Other is.elems)) in
     let s = one_segment i.segs i.end in
     let es = entries_of no_token (own_items true (elems_own Other is.elems)) in
-    let kinds = read_kinds tokens t is in
+    let kinds = read_kinds tokens t of in
     let gone : t.nodes ≡ [] → s.nodes ≡ [] = λ none. none_before s.nodes (sym (ap (λ (u : Statement). u.nodes) is.is) ∙ none) in
     record {
       kinds = kinds.0;

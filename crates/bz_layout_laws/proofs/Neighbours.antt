@@ -5,7 +5,7 @@ use Rattle.bz_tree.specs.declared.tree.GroupKind.{GroupKind}
 use Rattle.bz_tree.specs.private.Productions.{join}
 use Rattle.bz_tree.specs.Tree.{Item, Items, no_items, item}
 use Rattle.bz_layout.specs.declared.spacing.Edge.{Edge}
-use Rattle.bz_layout.specs.Spacing.{edge_after, holds_on}
+use Rattle.bz_layout.specs.Walked.{edge_after, holds_on}
 use Rattle.bz_layout_laws.specs.Following.{MayStandIn, MayFollow}
 use Rattle.bz_layout_laws.specs.Legible.{begins_later, may_follow}
 use Rattle.bz_layout_laws.specs.TextsOfKinds.{HaveTexts}

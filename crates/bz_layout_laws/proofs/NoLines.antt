@@ -14,10 +14,9 @@ use Rattle.bz_layout.specs.declared.spacing.Edge.TheVariants.{Start}
 use Rattle.bz_layout.specs.declared.spacing.Gap.{Gap}
 use Rattle.bz_layout.specs.declared.spacing.Gap.TheVariants.{Closed, Space, Apart, Line}
 use Rattle.bz_layout.specs.declared.broken.Style.TheVariants.{Broken}
-use Rattle.bz_layout.specs.Spacing.{edge_after, gap_before}
-use Rattle.bz_layout.specs.Broken.{count, is_broken, segs_hold}
+use Rattle.bz_layout.specs.Walked.{edge_after, gap_before, count, is_broken, segs_hold, opening, closing, items_pieces}
 use Rattle.bz_layout.specs.Pieces.{Piece, piece, comma_if, comments, suffix_piece}
-use Rattle.bz_layout.specs.Layout.{opening, closing, has_commas, items_pieces}
+use Rattle.bz_layout.specs.Layout.{has_commas}
 use Rattle.bz_layout_laws.specs.FreeLayout.{Choice, own, breaks_by, inside, following, text_of, item_by, items_by, broken_by, flat_by}
 use Rattle.bz_layout_laws.specs.Legible.{IsLegibleItem, AreLegible, AreLegibleSegs, IsLegible}
 use Rattle.bz_layout_laws.specs.ReadPieces.{read_pieces}

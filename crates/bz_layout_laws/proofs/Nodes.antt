@@ -1,7 +1,7 @@
 -- Whose the comments are does not hang on what the nodes are.
 use Rattle.std.proofs.Common.{◌≡◌, ℕ, List, [], ◌∷◌, ◌++◌, map, true, false, not, cond, refl, ap, ◌∙◌, drop}
 use Rattle.bz_tree.specs.Tree.{Item, Segment}
-use Rattle.bz_tree.specs.Owners.{Entry, a_node, a_comma, a_comment, first_cell, other_cells, same_line, later_lines, nodes_in, has_node, comments_in, above_last, beside_last, below_last, cell_segment, with_segment, segments_from, end_from, has_trailing_comma, inside_by_cells}
+use Rattle.bz_tree.specs.Cells.{Entry, a_node, a_comma, a_comment, first_cell, other_cells, same_line, later_lines, nodes_in, has_node, comments_in, above_last, beside_last, below_last, cell_segment, with_segment, segments_from, end_from, has_trailing_comma, inside_by_cells}
 use Rattle.bz_layout_laws.specs.Nodes.{entry_mapped, segment_mapped, inside_mapped}
 use Rattle.bz_token.specs.Common.{first_of, is_filled}
 

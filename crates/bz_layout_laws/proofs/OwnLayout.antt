@@ -1,5 +1,5 @@
 -- The layout is one of the free layouts.
-use Rattle.std.proofs.Common.{◌≡◌, ℕ, ◌+◌, List, [], ◌∷◌, ◌++◌, Bool, true, false, Option, Some, None, refl, ap}
+use Rattle.std.proofs.Common.{◌≡◌, ℕ, ◌+◌, List, [], ◌∷◌, ◌++◌, Bool, true, false, Option, Some, None, refl, ap, sym, ◌∙◌}
 use Rattle.std.specs.Prelude.{codes}
 use Rattle.bz_token.specs.declared.token.Kind.TheVariants.{Newline}
 use Rattle.bz_tree.specs.declared.tree.GroupKind.{GroupKind}
@@ -9,9 +9,10 @@ use Rattle.bz_layout.specs.declared.spacing.Edge.TheVariants.{Start}
 use Rattle.bz_layout.specs.declared.spacing.Gap.{Gap}
 use Rattle.bz_layout.specs.declared.spacing.Gap.TheVariants.{Closed, Space, Line}
 use Rattle.bz_layout.specs.declared.broken.Style.TheVariants.{Broken}
-use Rattle.bz_layout.specs.Spacing.{edge_after, gap_before}
+use Rattle.bz_layout.specs.Walked.{edge_after, gap_before, item_pieces, items_pieces, broken_segs, flat_segs}
+use Rattle.bz_layout.proofs.SameLayout.{layout_is}
 use Rattle.bz_layout.specs.Pieces.{Piece, piece, bytes_of, suffix_piece}
-use Rattle.bz_layout.specs.Layout.{item_pieces, items_pieces, broken_segs, flat_segs, layout, layout_text}
+use Rattle.bz_layout.specs.Layout.{layout, layout_text}
 use Rattle.bz_layout_laws.specs.FreeLayout.{Choice, own, item_by, items_by, broken_by, flat_by, statement_by, text_by}
 
 -- the nodes of a statement, the comment beside them, a newline
@@ -36,7 +37,7 @@ mutual
   flat_own level kind first (seg before nodes suffix ss) = rw (items_own level (Some kind) Closed Start nodes, items_own level (Some kind) Space Start nodes, flat_own level kind false ss) refl
 
 pub statement_own : (s : Statement) → statement_by own s ≡ layout s
-statement_own s = rw (items_own 0 None Closed Start (items_of s.nodes)) refl
+statement_own s = rw (items_own 0 None Closed Start (items_of s.nodes)) refl ∙ sym (layout_is s)
 
 pub text_own : (s : Statement) → text_by own s ≡ layout_text s
 text_own s = ap bytes_of (statement_own s)

@@ -1,6 +1,8 @@
 -- A statement that tokens are read as has kinds and class of a parsed one.
 use Rattle.std.proofs.Common.{◌≡◌, List, [], ◌∷◌, Bool, true, false, refl, sym, ap, subst, ◌∙◌, codes}
 use Rattle.std.specs.Prelude.{if◌then◌else◌}
+use Rattle.std.specs.Str.{bytes_eq}
+use Rattle.bz_token.specs.declared.token.Kind.TheVariants.{Identifier, Operator}
 use Rattle.std.proofs.lemmas.Bool.{false≢true, and_parts}
 use Rattle.bz_token.specs.Places.{Placed}
 use Rattle.bz_tree.specs.declared.tree.GroupKind.{GroupKind}
@@ -9,14 +11,17 @@ use Rattle.bz_tree.specs.declared.tree.kinds.Shape.{Shape}
 use Rattle.bz_tree.specs.declared.tree.kinds.Shape.TheVariants.{Round, Square, Curly}
 use Rattle.bz_tree.specs.declared.tree.kinds.Preceding.{Preceding}
 use Rattle.bz_tree.specs.declared.tree.kinds.Preceding.TheVariants.{Operand, LoadWord, Other}
-use Rattle.bz_tree.specs.Brackets.{elems_own, own_items, after_item}
-use Rattle.bz_tree.specs.Kinds.{group_kind, is_operator_at}
-use Rattle.bz_tree.specs.Owners.{inside}
-use Rattle.bz_tree.specs.Statement.{is_ident, is_call, is_rule, is_rule_after, rule_call, one_segment, class_of, IsStatementOf}
-use Rattle.bz_tree.specs.Tree.{Item, leaf, group, Statement, items_of}
+use Rattle.bz_tree.specs.Brackets.{own_items}
+use Rattle.bz_tree.specs.Elements.{elems_own}
+use Rattle.bz_tree.specs.Kinds.{group_kind, after_item}
+use Rattle.bz_tree.specs.Cells.{inside}
+use Rattle.bz_tree.specs.Statement.{class_of, IsStatementOf}
+use Rattle.bz_tree.specs.Elements.{rule_call, one_segment}
+use Rattle.bz_tree.specs.Tree.{Item, leaf, group, Statement, items_of, is_call, is_rule, is_rule_after}
 use Rattle.bz_layout_laws.specs.Parsed.{HaveKinds, plain_kind, plain_call, plain_calls, HasKind}
 use Rattle.bz_layout_laws.proofs.KindsRead.{outside_kinds}
 use Rattle.bz_layout_laws.proofs.SameTests.{rule_nodes}
+use Rattle.bz_tree.proofs.Trees.Nested.{tree_of}
 
 plain_group : (shape : Shape) (b : Preceding) (comp : Bool) → plain_kind (group_kind shape b comp) ≡ group_kind shape b comp
 plain_group Round Operand comp = refl
@@ -47,15 +52,17 @@ mutual
   plain_rule : (xs : List Item) → is_rule xs ≡ true → plain_calls (rule_call xs) ≡ plain_calls xs
   plain_rule [] h = refl
   plain_rule (leaf kind text ∷ []) h = refl
-  plain_rule (leaf kind text ∷ y ∷ ys) h = ap (λ l. leaf kind text ∷ l) (plain_after (y ∷ ys) (and_parts (is_ident kind) (is_rule_after (y ∷ ys)) h).1)
+  plain_rule (leaf Identifier text ∷ y ∷ ys) h = ap (λ l. leaf Identifier text ∷ l) (plain_after (y ∷ ys) h)
+  plain_rule (leaf _ text ∷ y ∷ ys) h = absurd (false≢true h)
   plain_rule (group kind segs one_comma end ∷ xs) h = absurd (false≢true h)
 
   plain_after : (xs : List Item) → is_rule_after xs ≡ true → plain_calls (rule_call xs) ≡ plain_calls xs
   plain_after [] h = refl
   plain_after (leaf kind text ∷ []) h = refl
-  plain_after (leaf kind text ∷ y ∷ ys) h = ap (λ l. leaf kind text ∷ l) (plain_rule (y ∷ ys) (and_parts (is_operator_at (codes ".") kind text) (is_rule (y ∷ ys)) h).1)
-  plain_after (group kind segs one_comma end ∷ []) h = ap (λ k. group k segs one_comma end ∷ []) (call_kind kind (and_parts (is_call kind) true h).0)
-  plain_after (group kind segs one_comma end ∷ y ∷ ys) h = absurd (false≢true (and_parts (is_call kind) false h).1)
+  plain_after (leaf Operator text ∷ y ∷ ys) h = ap (λ l. leaf Operator text ∷ l) (plain_rule (y ∷ ys) (and_parts (bytes_eq text (codes ".")) (is_rule (y ∷ ys)) h).1)
+  plain_after (leaf _ text ∷ y ∷ ys) h = absurd (false≢true h)
+  plain_after (group kind segs one_comma end ∷ []) h = ap (λ k. group k segs one_comma end ∷ []) (call_kind kind h)
+  plain_after (group kind segs one_comma end ∷ y ∷ ys) h = absurd (false≢true h)
 
 plain_nodes : (xs : List Item) → plain_calls (rule_nodes xs) ≡ plain_calls xs
 plain_nodes xs = by (is_rule xs) refl
@@ -65,7 +72,8 @@ plain_nodes xs = by (is_rule xs) refl
     by false h = refl
 
 pub read_kinds : (tokens : List Placed) (t : Statement) → IsStatementOf tokens t → HaveKinds true Other (items_of (plain_calls t.nodes)) × (t.nodes ≡ (if is_rule (plain_calls t.nodes) then rule_call (plain_calls t.nodes) else plain_calls t.nodes)) × (t.class ≡ class_of t.nodes)
-read_kinds tokens t is =
+read_kinds tokens t of =
+    let is = tree_of tokens t of in
     let i = inside (own_items true (elems_own Other is.elems)) in
     let xs = (one_segment i.segs i.end).nodes in
     let kinds : HaveKinds true Other (items_of xs) = outside_kinds is.elems i refl is.well in

@@ -10,10 +10,10 @@ use Rattle.bz_layout.specs.declared.spacing.Edge.TheVariants.{Start, Joined, Dot
 use Rattle.bz_layout.specs.declared.spacing.Gap.{Gap}
 use Rattle.bz_layout.specs.declared.spacing.Gap.TheVariants.{Closed, Space, Line}
 use Rattle.bz_layout.specs.declared.broken.Style.TheVariants.{Broken}
-use Rattle.bz_layout.specs.Spacing.{closes_up, edge_after, gap_before}
-use Rattle.bz_layout.specs.Broken.{count, is_broken, segs_hold}
+use Rattle.bz_layout.specs.Walked.{closes_up, edge_after, gap_before, count, is_broken, segs_hold, opening, closing, item_pieces, items_pieces, broken_segs, flat_segs, statement_line}
+use Rattle.bz_layout.proofs.SameLayout.{layout_is}
 use Rattle.bz_layout.specs.Pieces.{Piece, piece, comma_if, comments, comment_lines, suffix_piece}
-use Rattle.bz_layout.specs.Layout.{opening, closing, has_commas, item_pieces, items_pieces, broken_segs, flat_segs, statement_line, is_comment, layout}
+use Rattle.bz_layout.specs.Layout.{has_commas, is_comment, layout}
 use Rattle.bz_layout_laws.specs.Lexemes.{lexeme, comment_lexemes, suffix_lexemes, comma_lexemes, item_lexemes, items_lexemes, ended_lexemes, separated_lexemes, comment_line_lexemes, line_lexemes, lexemes_of}
 use Rattle.bz_layout_laws.specs.ReadPieces.{is_apart, piece_lexeme, piece_lexemes}
 
@@ -120,5 +120,6 @@ line_pieces_are s =
 
 pub layout_lexemes : (s : Statement) → piece_lexemes (layout s) ≡ lexemes_of s
 layout_lexemes s =
-    pieces_join (comment_lines s.before) (if is_comment s.class then [] else statement_line s)
+    ap piece_lexemes (layout_is s)
+    ∙ pieces_join (comment_lines s.before) (if is_comment s.class then [] else statement_line s)
     ∙ rw (line_pieces s.before, either (is_comment s.class) [] (statement_line s), line_pieces_are s) refl

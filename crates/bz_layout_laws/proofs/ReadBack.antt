@@ -2,7 +2,8 @@
 use Rattle.std.proofs.Common.{◌≡◌, ℕ, List, [], ◌∷◌, ◌++◌, map, Bool, true, false, cond, ◌&&◌, ◌||◌, Option, Some, None, refl, sym, ap, ◌∙◌, append-nil, drop}
 use Rattle.std.proofs.lemmas.Bool.{false≢true}
 use Rattle.bz_tree.specs.Tree.{Item, Segment}
-use Rattle.bz_tree.specs.Owners.{Own, node, comma, comment, Last, no_token, end_of_node, end_of_comma, is_on, no_empty, Inside, inside, Entry, a_node, a_comma, a_comment, first_cell, other_cells, same_line, later_lines, nodes_in, has_node, comments_in, above_last, beside_last, below_last, cell_segment, with_segment, segments_from, end_from, has_trailing_comma, inside_by_cells, entries_of}
+use Rattle.bz_tree.specs.Owners.{Own, node, comma, comment, Inside}
+use Rattle.bz_tree.specs.Cells.{Last, no_token, end_of_node, end_of_comma, is_on, no_empty, inside, Entry, a_node, a_comma, a_comment, first_cell, other_cells, same_line, later_lines, nodes_in, has_node, comments_in, above_last, beside_last, below_last, cell_segment, with_segment, segments_from, end_from, has_trailing_comma, inside_by_cells, entries_of}
 use Rattle.bz_layout_laws.specs.Written.{own_lines, suffix_entry, written_entries, HaveNodes}
 use Rattle.bz_tree.proofs.Trees.OneBracket.{trails, trails_comma, trails_comment, trailed_is}
 use Rattle.bz_token.specs.Common.{first_of, is_filled}
@@ -89,10 +90,6 @@ end_nodes (t ∷ ts) = end_nodes ts
 end_above : (ts : List (List ℕ)) → above_last (own_lines ts) ≡ []
 end_above [] = refl
 end_above (t ∷ ts) = rw (end_nodes ts) refl
-
-end_beside : (ts : List (List ℕ)) → beside_last (own_lines ts) ≡ []
-end_beside [] = refl
-end_beside (t ∷ ts) = end_beside ts
 
 end_comments : (ts : List (List ℕ)) → comments_in (own_lines ts) ≡ ts
 end_comments [] = refl

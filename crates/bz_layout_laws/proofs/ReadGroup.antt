@@ -10,12 +10,15 @@ use Rattle.bz_tree.specs.declared.tree.kinds.Shape.TheVariants.{Round, Square, C
 use Rattle.bz_tree.specs.declared.tree.kinds.Mark.TheVariants.{Open, Close}
 use Rattle.bz_tree.specs.declared.tree.kinds.Preceding.{Preceding}
 use Rattle.bz_tree.specs.declared.tree.kinds.Preceding.TheVariants.{Operand, LoadWord, Other}
-use Rattle.bz_tree.specs.Brackets.{bracket, elems_tokens, elems_own, has_for, is_paren, own_items, group_of, end_line}
+use Rattle.bz_tree.specs.Brackets.{is_paren, own_items, end_line}
+use Rattle.bz_tree.specs.Elements.{has_for}
+use Rattle.bz_tree.specs.Elements.{group_of}
+use Rattle.bz_tree.specs.Elements.{bracket, elems_tokens, elems_own}
 use Rattle.bz_tree.specs.Kinds.{operator_mark, group_kind, is_one}
-use Rattle.bz_tree.specs.Owners.{Entry, a_node, no_token, end_of_node, no_empty}
+use Rattle.bz_tree.specs.Cells.{Entry, a_node, no_token, end_of_node, no_empty}
 use Rattle.bz_tree.specs.Tree.{group, Segs, segments}
 use Rattle.bz_layout_laws.specs.Written.{written_entries, HaveNodes}
-use Rattle.bz_layout.specs.Layout.{opening, closing}
+use Rattle.bz_layout.specs.Walked.{opening, closing}
 use Rattle.bz_layout_laws.specs.Lexemes.{Lexeme, lexeme}
 use Rattle.bz_layout_laws.specs.Parsed.{have_for}
 use Rattle.bz_layout_laws.proofs.Taken.{placed_at, take_first, begins_beside, from_none, agree_none}

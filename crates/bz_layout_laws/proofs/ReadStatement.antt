@@ -9,21 +9,23 @@ use Rattle.bz_tree.specs.declared.tree.GroupKind.{GroupKind}
 use Rattle.bz_tree.specs.declared.tree.GroupKind.TheVariants.{Call, RuleCall}
 use Rattle.bz_tree.specs.declared.tree.Class.{Class}
 use Rattle.bz_tree.specs.declared.tree.Class.TheVariants.{Load as LoadClass, Assign, Rule, Other as OtherClass, Block}
-use Rattle.bz_tree.specs.Kinds.{group_kind}
+use Rattle.bz_tree.specs.Kinds.{group_kind, after_item}
 use Rattle.bz_tree.specs.declared.tree.kinds.Preceding.{Preceding}
 use Rattle.bz_tree.specs.declared.tree.kinds.Preceding.TheVariants.{Other}
-use Rattle.bz_tree.specs.Brackets.{Elems, elems_tokens, elems_own, own_items, AreWell, after_item, without_lines}
-use Rattle.bz_tree.specs.Owners.{Own, Entry, a_node, no_token, entries_of}
-use Rattle.bz_tree.specs.Statement.{segment_of, class_of, is_kept, is_load_word, is_rule, statement_with, IsStatementOf, is_assign}
-use Rattle.bz_tree.specs.Tree.{Item, leaf, group, Segment, Statement, items_of}
+use Rattle.bz_tree.specs.Brackets.{own_items, without_lines}
+use Rattle.bz_tree.specs.Elements.{Elems, elems_tokens, elems_own, AreWell}
+use Rattle.bz_tree.specs.Owners.{Own}
+use Rattle.bz_tree.specs.Cells.{Entry, a_node, no_token, entries_of}
+use Rattle.bz_tree.specs.Statement.{class_of, is_kept, is_load_word, statement_with, IsStatementOf, is_assign}
+use Rattle.bz_tree.specs.Elements.{segment_of}
+use Rattle.bz_tree.specs.Tree.{Item, leaf, group, Segment, Statement, items_of, is_rule}
 use Rattle.bz_layout_laws.specs.Written.{own_lines, suffix_entry, written_entries}
 use Rattle.bz_layout_laws.proofs.WrittenBack.{statement_back, comments_back}
 use Rattle.bz_layout_laws.proofs.ChunkLaws.{tree_same}
 use Rattle.bz_layout.specs.declared.spacing.Edge.{Edge}
 use Rattle.bz_layout.specs.declared.spacing.Edge.TheVariants.{Start}
-use Rattle.bz_layout.specs.Broken.{is_broken, segs_hold}
-use Rattle.bz_layout.specs.Spacing.{edge_after}
-use Rattle.bz_layout.specs.Layout.{closing, is_comment, layout_text}
+use Rattle.bz_layout.specs.Walked.{is_broken, segs_hold, edge_after, closing}
+use Rattle.bz_layout.specs.Layout.{is_comment, layout_text}
 use Rattle.bz_layout_laws.specs.FreeLayout.{Choice, own, breaks_by, inside, following, item_spelled_by, segs_spelled_by, spelled_by, text_by, Stand}
 use Rattle.bz_layout_laws.specs.Inside.{without_newlines, own_segment}
 use Rattle.bz_layout_laws.specs.Legible.{are_some, IsLegibleItem, AreLegible, IsLegible, depth_of}
@@ -46,6 +48,7 @@ use Rattle.bz_layout_laws.proofs.Unlined.{lines_out, nodes_none}
 use Rattle.bz_layout_laws.proofs.WrittenLine.{free_line_is, free_comments_are}
 use Rattle.bz_token.specs.Common.{is_filled}
 use Rattle.std.specs.List.{list_any}
+use Rattle.bz_tree.proofs.Trees.Nested.{of_tree}
 
 -- the call of a rule is read as a call
 top_reads : (b : Preceding) (c : Choice) (x : Item) (ls : List Lexeme) (es : List Entry) (tail : List Lexeme) → IsLegibleItem x → HasKind b (plain_call x) → Reads true (after_item x) ls es tail
@@ -91,7 +94,7 @@ finish c s tokens parsed tree =
     let found = segment_of (elems_own Other tree.elems) in
     let class : class_of found.nodes ≡ s.class = ap (λ (g : Segment). class_of g.nodes) tree.segment ∙ class_by c s.nodes ∙ sym parsed.class in (
       statement_with tokens found,
-      record { elems = tree.elems; tokens_are = tree.tokens_are; well = tree.well; is = refl },
+      of_tree tokens (statement_with tokens found) (record { elems = tree.elems; tokens_are = tree.tokens_are; well = tree.well; is = refl }),
       λ i. record { before = (tree.segment i).before; nodes = (tree.segment i).nodes; suffix = (tree.segment i).suffix; class = class i; start = 0; end = 0 },
     )
 

@@ -13,9 +13,12 @@ use Rattle.bz_tree.specs.declared.tree.kinds.Mark.{Mark}
 use Rattle.bz_tree.specs.declared.tree.kinds.Mark.TheVariants.{Open, Close, Comma, Comment, Newline as NewlineMark, Plain}
 use Rattle.bz_tree.specs.declared.tree.kinds.Preceding.{Preceding}
 use Rattle.bz_tree.specs.declared.tree.kinds.Preceding.TheVariants.{Other}
-use Rattle.bz_tree.specs.Brackets.{Elem, single, Elems, no_elems, elem, elem_tokens, elems_tokens, leaf_of, own_item, own_items, own_of, preceding, elem_own, elems_own, is_single, IsWell, AreWell, end_line}
-use Rattle.bz_tree.specs.Kinds.{kind_mark, operator_mark, mark_of, kind_after}
-use Rattle.bz_tree.specs.Owners.{node, comma, comment, Last, no_token, end_of_node, end_of_comma, Entry, a_node, a_comma, a_comment, entries_of}
+use Rattle.bz_tree.specs.Brackets.{leaf_of, own_items, preceding, end_line}
+use Rattle.bz_tree.specs.Elements.{Elem, single, Elems, no_elems, elem, elem_tokens, elems_tokens, own_of, elem_own, elems_own, is_single, IsWell, AreWell}
+use Rattle.bz_tree.specs.Kinds.{kind_mark, operator_mark, mark_of}
+use Rattle.bz_tree.specs.private.KindSteps.{own_item, kind_after}
+use Rattle.bz_tree.specs.Owners.{node, comma, comment}
+use Rattle.bz_tree.specs.Cells.{Last, no_token, end_of_node, end_of_comma, Entry, a_node, a_comma, a_comment, entries_of}
 use Rattle.bz_tree.specs.Statement.{is_aside}
 use Rattle.bz_tree.specs.Tree.{Item, leaf}
 use Rattle.bz_layout.specs.Respell.{respell}

@@ -8,16 +8,15 @@ use Rattle.bz_tree.specs.declared.tree.GroupKind.{GroupKind}
 use Rattle.bz_tree.specs.declared.tree.GroupKind.TheVariants.{Index, ListComp, DictComp}
 use Rattle.bz_tree.specs.declared.tree.kinds.Preceding.{Preceding}
 use Rattle.bz_tree.specs.declared.tree.kinds.Preceding.TheVariants.{Other}
-use Rattle.bz_tree.specs.Brackets.{after_item, is_paren}
-use Rattle.bz_tree.specs.Kinds.{is_one, group_kind}
-use Rattle.bz_tree.specs.Owners.{Entry, a_node}
+use Rattle.bz_tree.specs.Brackets.{is_paren}
+use Rattle.bz_tree.specs.Kinds.{is_one, group_kind, after_item}
+use Rattle.bz_tree.specs.Cells.{Entry, a_node}
 use Rattle.bz_tree.specs.Tree.{Item, leaf, group, Items, no_items, item, Segs, no_segs, seg, list_of, segments}
 use Rattle.bz_layout_laws.specs.Written.{own_lines, suffix_entry, written_entries}
 use Rattle.bz_layout.specs.declared.spacing.Edge.{Edge}
 use Rattle.bz_layout.specs.declared.spacing.Edge.TheVariants.{Start}
-use Rattle.bz_layout.specs.Broken.{count, is_broken, segs_hold}
-use Rattle.bz_layout.specs.Spacing.{edge_after}
-use Rattle.bz_layout.specs.Layout.{closing, has_commas}
+use Rattle.bz_layout.specs.Walked.{count, is_broken, segs_hold, edge_after, closing}
+use Rattle.bz_layout.specs.Layout.{has_commas}
 use Rattle.bz_layout_laws.specs.Legible.{is_leaf_mark, are_some, IsLegibleItem, AreLegible, AreLegibleSegs}
 use Rattle.bz_layout_laws.specs.FreeLayout.{Choice, breaks_by, inside, following, text_of, item_spelled_by, items_spelled_by, segs_spelled_by}
 use Rattle.bz_layout_laws.specs.Lexemes.{Lexeme, lexeme, comment_lexemes, suffix_lexemes, comma_lexemes}

@@ -4,14 +4,15 @@ use Rattle.std.specs.Prelude.{count_by, if◌then◌else◌, Option, Some}
 use Rattle.std.specs.List.{list_all}
 use Rattle.std.specs.Str.{bytes_eq}
 use Rattle.std.proofs.lemmas.Bool.{cases_Bool, and_parts, not-true, false≢true}
+use Rattle.bz_token.proofs.Openings.{opens_plain}
 use Rattle.bz_token.specs.declared.token.Kind.{Kind}
 use Rattle.bz_token.specs.declared.token.Kind.TheVariants.{String}
 use Rattle.bz_token.specs.declared.scan_string.Quotes.{Quotes}
 use Rattle.bz_token.specs.declared.scan_string.Opening.{Opening}
 use Rattle.bz_token.specs.declared.scan_string.Escape.TheVariants.{Unescaped, AfterBackslash}
-use Rattle.bz_token.specs.Pieces.{is_quote}
-use Rattle.bz_token.specs.Lexical.{is_string, opening, is_closed, is_text, is_string_kind}
-use Rattle.bz_token.specs.private.Closing.{closes, starts_escape}
+use Rattle.bz_token.specs.Strings.{is_quote, is_string, opening}
+use Rattle.bz_token.specs.Lexical.{is_text, is_string_kind}
+use Rattle.bz_token.specs.private.Closing.{closes, starts_escape, is_closed}
 use Rattle.bz_token.proofs.StringUnits.{closes_units}
 use Rattle.bz_token.proofs.Classes.{same_bytes}
 use Rattle.bz_token.proofs.Progress.{newlines-append}
@@ -68,12 +69,12 @@ string_by_closing q inner r b quote other plain =
     ap (λ o. is_closed o (within q inner)) (opens inner plain) ∙ sym (closes_units (short q) (inner ++ q ∷ []) quote)
   where
     opens : (inner : List ℕ) → list_all is_plain inner ≡ true → opening (within q inner) ≡ opened q false
-    opens [] plain = rw (r, b, quote) (two (q == q))
+    opens [] plain = opens_plain q (q ∷ []) r b ∙ rw quote (two (q == q))
       where
         two : (x : Bool) → opened q (x && false) ≡ opened q false
         two true = refl
         two false = refl
-    opens (c ∷ cs) plain = let none = other c (and_parts (is_plain c) (list_all is_plain cs) plain).0 in rw (r, b, quote, none) refl
+    opens (c ∷ cs) plain = let none = other c (and_parts (is_plain c) (list_all is_plain cs) plain).0 in opens_plain q (c ∷ (cs ++ q ∷ [])) r b ∙ rw (quote, none) refl
 
 pub single_parts : (text : List ℕ) → is_single text ≡ true → (text ≡ within 39 (content text)) × (list_all is_plain (content text) ≡ true)
 single_parts text h =

@@ -2,9 +2,11 @@
 use Rattle.std.proofs.Common.{◌≡◌, ℕ, suc, ◌==◌, ◌&&◌, List, length, Bool, true, false, refl, ap, ◌∙◌}
 use Rattle.std.proofs.lemmas.Bool.{false≢true}
 use Rattle.bz_tree.specs.declared.tree.GroupKind.{GroupKind}
-use Rattle.bz_tree.specs.Brackets.{is_paren, own_items, group_of}
+use Rattle.bz_tree.specs.Brackets.{is_paren, own_items}
+use Rattle.bz_tree.specs.Elements.{group_of}
 use Rattle.bz_tree.specs.Kinds.{is_one}
-use Rattle.bz_tree.specs.Owners.{Own, no_token, no_empty, entries_of}
+use Rattle.bz_tree.specs.Owners.{Own}
+use Rattle.bz_tree.specs.Cells.{no_token, no_empty, entries_of}
 use Rattle.bz_tree.specs.Tree.{group, Items, no_items, item, Segs, no_segs, seg, items_of, list_of, segs_of, segments}
 use Rattle.bz_layout_laws.specs.Written.{written_entries, HaveNodes}
 use Rattle.bz_layout_laws.proofs.WrittenBack.{group_back}

@@ -1,15 +1,13 @@
 -- What a statement is does not hang on the spelling of strings.
-use Rattle.std.proofs.Common.{◌≡◌, ℕ, ◌&&◌, ◌||◌, List, [], ◌∷◌, map, refl, ap, codes}
+use Rattle.std.proofs.Common.{◌≡◌, ◌&&◌, ◌||◌, List, [], ◌∷◌, map, refl, ap, codes}
 use Rattle.std.specs.Prelude.{if◌then◌else◌}
-use Rattle.bz_token.specs.declared.token.Kind.{Kind}
-use Rattle.bz_token.specs.declared.token.Kind.TheVariants.{String}
+use Rattle.std.specs.Str.{bytes_eq}
+use Rattle.bz_token.specs.declared.token.Kind.TheVariants.{Identifier, Operator, String}
 use Rattle.bz_tree.specs.declared.tree.Class.TheVariants.{Load, Assign, Rule, Other, Block}
-use Rattle.bz_tree.specs.Statement.{is_ident, is_call, is_rule, is_rule_after, rule_call, is_assign, is_load_word, is_kept, class_of}
-use Rattle.bz_tree.specs.Tree.{Item, leaf, group}
-use Rattle.bz_layout.specs.Respell.{respell}
+use Rattle.bz_tree.specs.Statement.{is_assign, is_load_word, is_kept, class_of}
+use Rattle.bz_tree.specs.Elements.{rule_call}
+use Rattle.bz_tree.specs.Tree.{Item, leaf, group, is_rule, is_rule_after}
 use Rattle.bz_layout_laws.specs.Spelled.{spelled}
-use Rattle.bz_token.specs.Common.{is_empty}
-use Rattle.bz_tree.specs.Kinds.{is_operator_at}
 use Rattle.std.specs.List.{list_any}
 
 kept_spelled : (x : Item) → is_kept (spelled x) ≡ is_kept x
@@ -27,24 +25,19 @@ assign_spelled (group kind segs one_comma end) = refl
 assign_spelled (leaf String text) = refl
 assign_spelled (leaf _ text) = refl
 
-dot_spelled : (kind : Kind) (text : List ℕ) → is_operator_at (codes ".") kind (respell kind text) ≡ is_operator_at (codes ".") kind text
-dot_spelled String text = refl
-dot_spelled _ text = refl
-
-nothing_spelled : (xs : List Item) → is_empty (map spelled xs) ≡ is_empty xs
-nothing_spelled [] = refl
-nothing_spelled (x ∷ xs) = refl
-
 mutual
   pub rule_spelled : (xs : List Item) → is_rule (map spelled xs) ≡ is_rule xs
   rule_spelled [] = refl
-  rule_spelled (leaf kind text ∷ xs) = ap (λ b. is_ident kind && b) (after_spelled xs)
+  rule_spelled (leaf Identifier text ∷ xs) = after_spelled xs
+  rule_spelled (leaf _ text ∷ xs) = refl
   rule_spelled (group kind segs one_comma end ∷ xs) = refl
 
   after_spelled : (xs : List Item) → is_rule_after (map spelled xs) ≡ is_rule_after xs
   after_spelled [] = refl
-  after_spelled (leaf kind text ∷ xs) = λ i. dot_spelled kind text i && rule_spelled xs i
-  after_spelled (group kind segs one_comma end ∷ xs) = ap (λ b. is_call kind && b) (nothing_spelled xs)
+  after_spelled (leaf Operator text ∷ xs) = ap (λ b. bytes_eq text (codes ".") && b) (rule_spelled xs)
+  after_spelled (leaf _ text ∷ xs) = refl
+  after_spelled (group kind segs one_comma end ∷ []) = refl
+  after_spelled (group kind segs one_comma end ∷ x ∷ xs) = refl
 
 -- the nodes of a statement, the call of a rule with them
 abbrev pub rule_nodes : List Item → List Item

@@ -6,9 +6,11 @@ use Rattle.bz_token.specs.Common.{is_filled}
 use Rattle.bz_tree.specs.declared.tree.GroupKind.{GroupKind}
 use Rattle.bz_tree.specs.declared.tree.GroupKind.TheVariants.{Call, RuleCall}
 use Rattle.bz_tree.specs.declared.tree.kinds.Preceding.{Preceding}
-use Rattle.bz_tree.specs.Brackets.{after_item, is_paren}
+use Rattle.bz_tree.specs.Brackets.{is_paren}
+use Rattle.bz_tree.specs.Kinds.{after_item}
 use Rattle.bz_tree.specs.Tree.{Item, leaf, group, Items, no_items, item, Segs, no_segs, seg, items_of}
-use Rattle.bz_layout.specs.Broken.{count, have_comments, breaks_by_count, is_broken, segs_hold}
+use Rattle.bz_layout.specs.Broken.{breaks_by_count}
+use Rattle.bz_layout.specs.Walked.{count, have_comments, is_broken, segs_hold}
 use Rattle.bz_layout_laws.specs.FreeLayout.{own, Stands, Stand, SegsStand}
 use Rattle.bz_layout_laws.specs.Inside.{HasShape}
 use Rattle.bz_layout_laws.specs.Parsed.{HasKind, HaveKinds, SegsHaveKinds, plain_call, plain_calls}

@@ -13,7 +13,7 @@ use Rattle.bz_tree.specs.Tree.{Segment, Statement, items_of}
 use Rattle.bz_tree.specs.Statement.{first_token, first_seen, last_seen, start_of, statement_with}
 use Rattle.bz_tree.specs.Brackets.{end_line}
 use Rattle.bz_tree.specs.Blocks.{is_block, above, kept_statement, IsBlockOf, is_block_word}
-use Rattle.bz_tree.specs.Chunk.{IsPlain, IsOneOf, indent_fault, IsChunkOf, IsLexical}
+use Rattle.bz_tree.specs.Chunk.{IsPlain, IsOneOf, indent_fault, IsChunkOf}
 use Rattle.bz_tree.specs.private.Steps.{new_level, run}
 use Rattle.bz_tree.specs.private.Machine.{is_statement}
 use Rattle.bz_tree.specs.private.BlockSteps.{AreStanding}
@@ -69,10 +69,6 @@ chunk_or_none first bytes ts stand = at_word (map_or false is_block_word (first_
     at_word true begins = subst (λ b. Either (IsOneOf b first bytes ts)) (sym begins) (block_or_none first bytes ts stand begins)
     at_word false begins = subst (λ b. Either (IsOneOf b first bytes ts)) (sym begins) (plain_or_none ts)
 
-lexical : (f : LexFault) → (f ≡ lex.OutOfMemory no_memory → ⊥) → IsLexical f
-lexical (lex.OutOfMemory _) some = absurd (some refl)
-lexical _ some = tt
-
 lex_some : (f : LexFault) → Lex f ≡ OutOfMemory no_memory → ⊥
 lex_some f e = cc
 
@@ -102,4 +98,4 @@ some_answer first depth bytes = by_reading (tokens_or_fault first depth bytes)
   where
     by_reading : ((ts : List Placed) × AreTokensOf first depth bytes ts) ⊎ ((f : LexFault) × (f ≡ lex.OutOfMemory no_memory → ⊥) × IsFault first depth bytes f) → HasAnswer first depth bytes
     by_reading (inl found) = by_tokens first depth bytes found.0 found.1
-    by_reading (inr fault) = inr (inr (Lex fault.0, lex_some fault.0, (fault.2, lexical fault.0 fault.1)))
+    by_reading (inr fault) = inr (inr (Lex fault.0, lex_some fault.0, (fault.2, fault.1)))

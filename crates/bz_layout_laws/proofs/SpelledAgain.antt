@@ -1,5 +1,5 @@
 -- Strings that are spelled as they are written are written so again.
-use Rattle.std.proofs.Common.{◌≡◌, ℕ, ◌+◌, List, [], ◌∷◌, Bool, true, false, Option, Some, map, refl, ap, ◌∙◌}
+use Rattle.std.proofs.Common.{◌≡◌, ℕ, ◌+◌, List, [], ◌∷◌, Bool, true, false, Option, Some, map, refl, ap, sym, ◌∙◌}
 use Rattle.bz_token.specs.declared.token.Kind.TheVariants.{String}
 use Rattle.bz_tree.specs.declared.tree.GroupKind.{GroupKind}
 use Rattle.bz_tree.specs.Tree.{Item, leaf, group, Items, no_items, item, Segs, no_segs, seg, Statement, items_of}
@@ -7,10 +7,11 @@ use Rattle.bz_layout.specs.declared.spacing.Edge.{Edge}
 use Rattle.bz_layout.specs.declared.spacing.Edge.TheVariants.{Start, Operator, Operand}
 use Rattle.bz_layout.specs.declared.spacing.Gap.{Gap}
 use Rattle.bz_layout.specs.declared.broken.Style.{Style}
-use Rattle.bz_layout.specs.Spacing.{closes_up, edge_after, gap_before}
-use Rattle.bz_layout.specs.Broken.{count, have_comments, holds_broken, items_hold, segs_hold, is_broken}
+use Rattle.bz_layout.specs.Walked.{closes_up, edge_after, gap_before, count, have_comments, holds_broken, items_hold, segs_hold, is_broken, item_pieces, items_pieces, broken_segs, flat_segs}
+use Rattle.bz_layout.specs.Walked as walked
+use Rattle.bz_layout.proofs.SameLayout.{layout_is}
 use Rattle.bz_layout.specs.Pieces.{piece, bytes_of}
-use Rattle.bz_layout.specs.Layout.{item_pieces, items_pieces, broken_segs, flat_segs, layout, layout_text}
+use Rattle.bz_layout.specs.Layout.{layout, layout_text}
 use Rattle.bz_layout_laws.specs.Lineless.{lineless}
 use Rattle.bz_layout_laws.specs.Spelled.{spelled, spelled_items, spelled_segs, spelled_statement}
 use Rattle.bz_layout_laws.proofs.Respelled.{respelled_once}
@@ -76,8 +77,11 @@ list_spelled : (xs : List Item) → items_of (map spelled xs) ≡ spelled_items 
 list_spelled [] = refl
 list_spelled (x ∷ xs) = ap (item (spelled x)) (list_spelled xs)
 
+walk_spelled : (s : Statement) → walked.layout (spelled_statement s) ≡ walked.layout s
+walk_spelled s = rw (list_spelled s.nodes, items_spelled _ _ _ _ _ (items_of s.nodes)) refl
+
 pub layout_spelled : (s : Statement) → layout (spelled_statement s) ≡ layout s
-layout_spelled s = rw (list_spelled s.nodes, items_spelled _ _ _ _ _ (items_of s.nodes)) refl
+layout_spelled s = layout_is (spelled_statement s) ∙ walk_spelled s ∙ sym (layout_is s)
 
 pub written_again : (s t : Statement) → lineless t ≡ lineless (spelled_statement s) → layout_text t ≡ layout_text s
 written_again s t e = ap layout_text e ∙ ap bytes_of (layout_spelled s)

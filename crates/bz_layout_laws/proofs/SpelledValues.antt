@@ -5,8 +5,9 @@ use Rattle.std.specs.List.{list_all}
 use Rattle.std.proofs.lemmas.Bool.{cases_Bool, and_parts, eqb-false, ne_eqb}
 use Rattle.bz_token.specs.declared.token.Kind.{Kind}
 use Rattle.bz_token.specs.declared.token.Kind.TheVariants.{String}
-use Rattle.bz_label.specs.Values.{opening, value_of, value_at}
-use Rattle.bz_label.specs.private.ValueSteps.{first_len, inner_value, value_in}
+use Rattle.bz_label.specs.Values.{value_of, value_at}
+use Rattle.bz_label.specs.private.ValueSteps.{opening, opened_value, first_len, inner_value, value_in}
+use Rattle.bz_label.proofs.ValueForms.{opened_other}
 use Rattle.bz_label.proofs.Literals.{step}
 use Rattle.bz_layout.specs.Respell.{is_plain, content, is_single, respell}
 use Rattle.bz_layout_laws.proofs.Respelled.{within, plain_byte, single_parts}
@@ -71,10 +72,16 @@ opening_single [] plain = refl
 opening_single (b ∷ bs) plain = let none = plain_byte b (and_parts (is_plain b) (list_all is_plain bs) plain).0 in rw (turned b 39 none.1) refl
 
 value_double : (inner : List ℕ) → list_all is_plain inner ≡ true → value_of (within 34 inner) ≡ closed_value 34 inner
-value_double inner plain = rw (opening_double inner plain) refl
+value_double inner plain = sym (opened_other (within 34 inner) refl) ∙ opened inner plain
+  where
+    opened : (inner : List ℕ) → list_all is_plain inner ≡ true → opened_value false (within 34 inner) ≡ closed_value 34 inner
+    opened inner plain = rw (opening_double inner plain) refl
 
 value_single : (inner : List ℕ) → list_all is_plain inner ≡ true → value_of (within 39 inner) ≡ closed_value 39 inner
-value_single inner plain = rw (opening_single inner plain) refl
+value_single inner plain = sym (opened_other (within 39 inner) refl) ∙ opened inner plain
+  where
+    opened : (inner : List ℕ) → list_all is_plain inner ≡ true → opened_value false (within 39 inner) ≡ closed_value 39 inner
+    opened inner plain = rw (opening_single inner plain) refl
 
 string_value : (text : List ℕ) → value_of (respell String text) ≡ value_of text
 string_value text = elim (cases_Bool (is_single text)) [

@@ -2,7 +2,7 @@
 use Rattle.std.proofs.Common.{◌≡◌, ℕ, List, [], ◌∷◌, true, false, Some, None, refl, codes}
 use Rattle.bz_token.specs.declared.token.Kind.TheVariants.{Identifier}
 use Rattle.bz_tree.specs.Tree.{Item, leaf, Segment}
-use Rattle.bz_tree.specs.Owners.{a_node, a_comma, a_comment}
+use Rattle.bz_tree.specs.Cells.{a_node, a_comma, a_comment}
 use Rattle.bz_layout_laws.specs.Written.{written_entries}
 
 abbrev x : Item

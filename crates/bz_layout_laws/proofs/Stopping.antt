@@ -5,8 +5,8 @@ use Rattle.std.specs.Prelude.{codes, bytes_eq, if◌then◌else◌}
 use Rattle.std.proofs.lemmas.Bool.{cases_Bool, and_parts, or_cases, not-true, false≢true, eqb-true}
 use Rattle.bz_token.specs.declared.token.Kind.{Kind}
 use Rattle.bz_token.specs.declared.token.Kind.TheVariants.{String, Operator as OperatorToken, Newline, Comment, Kept}
-use Rattle.bz_token.specs.Pieces.{is_quote}
-use Rattle.bz_token.specs.Lexical.{begins, is_newline, is_text, is_word_byte}
+use Rattle.bz_token.specs.Strings.{is_quote}
+use Rattle.bz_token.specs.Lexical.{is_newline, is_text, is_word_byte}
 use Rattle.bz_token.specs.Ends.{is_comment_kind, stops_at, ends}
 use Rattle.bz_token.proofs.Classes.{same_bytes, empty_no_text}
 use Rattle.bz_token.proofs.Stops.{operator_stops, plain_stops}
@@ -19,13 +19,13 @@ use Rattle.bz_layout.specs.declared.spacing.Edge.TheVariants.{Start, Joined, Dot
 use Rattle.bz_layout.specs.declared.spacing.Gap.{Gap}
 use Rattle.bz_layout.specs.declared.spacing.Gap.TheVariants.{Closed, Space}
 use Rattle.bz_layout.specs.Respell.{is_single, respell}
-use Rattle.bz_layout.specs.Spacing.{closes_up, edge_after, holds_on, gap_before, is_prefix, begins_argument, is_index_colon}
+use Rattle.bz_layout.specs.Walked.{closes_up, edge_after, holds_on, gap_before, is_prefix, begins_argument, is_index_colon, opening}
 use Rattle.bz_layout.specs.Pieces.{Piece, bytes_of}
-use Rattle.bz_layout.specs.Layout.{opening}
 use Rattle.bz_layout_laws.specs.FreeLayout.{Choice, own, free, text_of, item_by}
 use Rattle.bz_layout_laws.specs.Legible.{is_later, may_follow, IsLegibleItem}
 use Rattle.bz_layout_laws.proofs.Respelled.{respelled_text}
 use Rattle.bz_layout_laws.proofs.TextOf.{text_is}
+use Rattle.bz_token.specs.Common.{begins}
 
 -- the text of pieces and what follows it
 abbrev pub before : List Piece → List ℕ → List ℕ
@@ -98,11 +98,6 @@ edge_started within left (leaf OperatorToken text) = by (bytes_eq text (codes ".
     by false false = refl
 edge_started within left (leaf _ text) = refl
 edge_started within left (group kind segs one_comma end) = refl
-
--- the first byte of a token
-begins_append : (p : ℕ → Bool) (kind : Kind) (text more : List ℕ) → is_text kind text ≡ true → begins p (text ++ more) ≡ begins p text
-begins_append p kind [] more is = absurd (empty_no_text kind is)
-begins_append p kind (b ∷ bs) more is = refl
 
 respelled_begins : (kind : Kind) (text : List ℕ) → begins is_later text ≡ false → begins is_later (respell kind text) ≡ false
 respelled_begins String text h = elim (cases_Bool (is_single text)) [ inl hit ↦ rw hit refl | inr miss ↦ rw miss h ]

@@ -3,7 +3,7 @@ use Rattle.std.proofs.Common.{◌≡◌, ℕ, ◌&&◌, List, [], ◌∷◌, Boo
 use Rattle.std.proofs.lemmas.Bool.{false≢true}
 use Rattle.bz_token.specs.Ends.{is_comment_kind}
 use Rattle.bz_token.specs.Places.{Placed}
-use Rattle.bz_tree.specs.Owners.{Last, no_token, is_on as is_on_line}
+use Rattle.bz_tree.specs.Cells.{Last, no_token, is_on as is_on_line}
 use Rattle.bz_layout_laws.specs.Lexemes.{Lexeme, end_after, is_on, lexemes_from}
 use Rattle.bz_token.specs.Common.{is_filled}
 

@@ -2,7 +2,8 @@
 use Rattle.std.proofs.Common.{◌≡◌, ℕ, List, true, refl}
 use Rattle.bz_token.specs.declared.token.Kind.{Kind}
 use Rattle.bz_token.specs.Lexical.{is_text}
-use Rattle.bz_tree.specs.Kinds.{kind_mark, kind_after}
+use Rattle.bz_tree.specs.Kinds.{kind_mark}
+use Rattle.bz_tree.specs.private.KindSteps.{kind_after}
 use Rattle.bz_layout_laws.specs.FreeLayout.{Choice, own, free, text_of}
 use Rattle.bz_layout_laws.proofs.ReadSteps.{same_mark, same_after}
 use Rattle.bz_layout_laws.proofs.Respelled.{respelled_text}

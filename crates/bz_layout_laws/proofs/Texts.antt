@@ -15,10 +15,9 @@ use Rattle.bz_layout.specs.declared.spacing.Edge.{Edge}
 use Rattle.bz_layout.specs.declared.spacing.Edge.TheVariants.{Start}
 use Rattle.bz_layout.specs.declared.spacing.Gap.{Gap}
 use Rattle.bz_layout.specs.declared.spacing.Gap.TheVariants.{Closed, Space, Line}
-use Rattle.bz_layout.specs.Spacing.{edge_after, gap_before}
-use Rattle.bz_layout.specs.Broken.{count, is_broken, segs_hold}
+use Rattle.bz_layout.specs.Walked.{edge_after, gap_before, count, is_broken, segs_hold, opening, closing}
 use Rattle.bz_layout.specs.Pieces.{Piece, piece, comma_if, comments, comment_lines, suffix_piece}
-use Rattle.bz_layout.specs.Layout.{opening, closing, has_commas, is_comment as is_comment_class}
+use Rattle.bz_layout.specs.Layout.{has_commas, is_comment as is_comment_class}
 use Rattle.bz_layout_laws.specs.FreeLayout.{Choice, breaks_by, inside, following, item_by, items_by, broken_by, flat_by, statement_by}
 use Rattle.bz_layout_laws.specs.Legible.{AreComments, IsLegibleItem, AreLegible, AreLegibleSegs, IsLegible}
 use Rattle.bz_layout_laws.specs.ReadPieces.{read_pieces}

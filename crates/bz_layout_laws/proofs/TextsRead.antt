@@ -16,17 +16,22 @@ use Rattle.bz_tree.specs.declared.tree.kinds.Mark.TheVariants.{Open, Close, Comm
 use Rattle.bz_tree.specs.declared.tree.kinds.Preceding.{Preceding}
 use Rattle.bz_tree.specs.declared.tree.kinds.Preceding.TheVariants.{Other}
 use Rattle.bz_tree.specs.declared.tree.kinds.Shape.TheVariants.{Round, Square, Curly}
-use Rattle.bz_tree.specs.Brackets.{Elem, single, bracket, Elems, no_elems, elem, elem_tokens, elems_tokens, own_items, own_of, preceding, elems_own, has_for, is_single, is_line, without_lines, AreWell, end_line}
+use Rattle.bz_tree.specs.Brackets.{own_items, preceding, is_line, without_lines, end_line}
+use Rattle.bz_tree.specs.Elements.{has_for}
+use Rattle.bz_tree.specs.Elements.{Elem, single, bracket, Elems, no_elems, elem, elem_tokens, elems_tokens, own_of, elems_own, is_single, AreWell}
 use Rattle.bz_tree.specs.Comments.{beside}
 use Rattle.bz_tree.specs.Kinds.{mark_of, kind_mark, operator_mark, group_kind, is_one}
-use Rattle.bz_tree.specs.Owners.{Own, Last, no_token, end_of_node, end_of_comma, entries_of, inside}
-use Rattle.bz_tree.specs.Statement.{is_rule, rule_call, one_segment, class_of, IsStatementOf}
-use Rattle.bz_tree.specs.Tree.{Item, leaf, group, Items, no_items, item, Segs, no_segs, seg, Segment, Statement, items_of, segs_of}
+use Rattle.bz_tree.specs.Owners.{Own}
+use Rattle.bz_tree.specs.Cells.{Last, no_token, end_of_node, end_of_comma, entries_of, inside}
+use Rattle.bz_tree.specs.Statement.{class_of, IsStatementOf}
+use Rattle.bz_tree.specs.Elements.{rule_call, one_segment}
+use Rattle.bz_tree.specs.Tree.{Item, leaf, group, Items, no_items, item, Segs, no_segs, seg, Segment, Statement, items_of, segs_of, is_rule}
 use Rattle.bz_layout.specs.Layout.{is_comment as is_comment_class}
 use Rattle.bz_layout_laws.specs.Legible.{is_leaf_mark, are_some, AreComments}
 use Rattle.bz_layout_laws.specs.TextsOfKinds.{HasText, HaveTexts, SegsHaveTexts, HasTexts}
 use Rattle.bz_layout_laws.proofs.EachRead.{Each, EachNode, EachSegment, inside_each, comments_join}
 use Rattle.bz_layout_laws.proofs.SameTests.{rule_nodes}
+use Rattle.bz_tree.proofs.Trees.Nested.{tree_of}
 
 abbrev pub is_token_text : Placed → Bool
 is_token_text t = is_text t.kind t.text
@@ -149,7 +154,8 @@ segment_texts [] end h k = (k, tt, refl)
 segment_texts (s ∷ ss) end h k = (comments_join is_comment s.before end h.0 k, h.2, h.3)
 
 pub read_texts : (first depth : ℕ) (bytes : List ℕ) (tokens : List Placed) (t : Statement) → AreTokensOf first depth bytes tokens → IsStatementOf tokens t → HasTexts t
-read_texts first depth bytes tokens t are is =
+read_texts first depth bytes tokens t are of =
+    let is = tree_of tokens t of in
     let i = inside (own_items true (elems_own Other is.elems)) in
     let s = one_segment i.segs i.end in
     let texts = elems_texts is_token_text is.elems (subst (λ ts. list_all is_token_text ts ≡ true) is.tokens_are (unlined_texts is_token_text tokens (tokens_are_texts first depth bytes tokens are))) in

@@ -11,17 +11,22 @@ use Rattle.bz_tree.specs.declared.tree.kinds.Mark.{Mark}
 use Rattle.bz_tree.specs.declared.tree.kinds.Mark.TheVariants.{Open, Close, Comma, Comment, Newline, Plain}
 use Rattle.bz_tree.specs.declared.tree.kinds.Preceding.{Preceding}
 use Rattle.bz_tree.specs.declared.tree.kinds.Preceding.TheVariants.{Other}
-use Rattle.bz_tree.specs.Brackets.{single, bracket, Elems, no_elems, elem, own_items, own_of, preceding, elems_own, has_for, is_single, AreWell, end_line}
+use Rattle.bz_tree.specs.Brackets.{own_items, preceding, end_line}
+use Rattle.bz_tree.specs.Elements.{has_for}
+use Rattle.bz_tree.specs.Elements.{single, bracket, Elems, no_elems, elem, own_of, elems_own, is_single, AreWell}
 use Rattle.bz_tree.specs.Comments.{beside}
 use Rattle.bz_tree.specs.Kinds.{mark_of, group_kind, is_one}
-use Rattle.bz_tree.specs.Owners.{Own, Last, no_token, end_of_node, end_of_comma, entries_of, inside}
-use Rattle.bz_tree.specs.Statement.{is_rule, rule_call, one_segment, IsStatementOf}
-use Rattle.bz_tree.specs.Tree.{Item, leaf, group, Items, no_items, item, Segs, no_segs, seg, Segment, Statement, items_of, segs_of}
+use Rattle.bz_tree.specs.Owners.{Own}
+use Rattle.bz_tree.specs.Cells.{Last, no_token, end_of_node, end_of_comma, entries_of, inside}
+use Rattle.bz_tree.specs.Statement.{IsStatementOf}
+use Rattle.bz_tree.specs.Elements.{rule_call, one_segment}
+use Rattle.bz_tree.specs.Tree.{Item, leaf, group, Items, no_items, item, Segs, no_segs, seg, Segment, Statement, items_of, segs_of, is_rule}
 use Rattle.bz_layout_laws.specs.EachText.{item_passes, items_pass, segs_pass, statement_passes, HasUtf8}
 use Rattle.bz_layout_laws.proofs.EachRead.{AllPass, Each, EachNode, EachSegment, inside_each, comments_join}
 use Rattle.bz_layout_laws.proofs.SameTests.{rule_nodes}
 use Rattle.bz_layout_laws.proofs.TextsRead.{ElemsTexts, elems_texts, unlined_texts}
 use Rattle.bz_layout_laws.proofs.Utf8Tokens.{tokens_utf8}
+use Rattle.bz_tree.proofs.Trees.Nested.{tree_of}
 
 abbrev Passes : (List ℕ → Bool) → Item → Type 0
 Passes q x = item_passes q x ≡ true
@@ -91,7 +96,8 @@ segment_passes q (s ∷ ss) end h k = (comments_join q s.before end h.0 k, nodes
 
 -- what passes of each token passes of each text of the statement that the tokens are
 pub read_passes : (q : List ℕ → Bool) (tokens : List Placed) (t : Statement) → list_all (passes_token q) tokens ≡ true → IsStatementOf tokens t → statement_passes q t ≡ true
-read_passes q tokens t pass is =
+read_passes q tokens t pass of =
+    let is = tree_of tokens t of in
     let i = inside (own_items true (elems_own Other is.elems)) in
     let s = one_segment i.segs i.end in
     let texts = elems_texts (passes_token q) is.elems (subst (λ ts. list_all (passes_token q) ts ≡ true) is.tokens_are (unlined_texts (passes_token q) tokens pass)) in

@@ -8,14 +8,16 @@ use Rattle.std.proofs.lemmas.Bool.{cases_Bool, and_parts, false≢true}
 use Rattle.std.proofs.lemmas.Bool.Decides.{nat_tests}
 use Rattle.std.proofs.lemmas.Str.{IsUtf8-take, IsUtf8-drop, IsUtf8-nil, is_utf8-from_IsUtf8}
 use Rattle.std.proofs.lemmas.List.{length-append, append-nil}
+use Rattle.bz_token.proofs.Units.{gap_step}
 use Rattle.bz_token.specs.declared.token.Kind.{Kind}
 use Rattle.bz_token.specs.declared.token.Kind.TheVariants.{String}
 use Rattle.bz_token.specs.Lexical.{is_text}
 use Rattle.bz_token.specs.Brackets.{is_inside, open_after_token}
 use Rattle.bz_token.specs.Places.{Placed, line_at}
-use Rattle.bz_token.specs.Reading.{Piece, IsReading, is_gap, is_white, tokens_of, AreTokensOf}
+use Rattle.bz_token.specs.Reading.{Piece, IsReading, is_gap, tokens_of, AreTokensOf}
 use Rattle.bz_token.proofs.Classes.{unknown, can_start, class_of, text_class, empty_no_text}
 use Rattle.bz_token.proofs.Quiet.{both}
+use Rattle.bz_token.specs.Pieces.{is_white}
 
 -- nothing, or an ASCII byte first
 abbrev pub StartsLow : List ℕ → Type 0
@@ -63,7 +65,7 @@ pub gap_low : (inside : Bool) (gap rest : List ℕ) → is_gap inside gap ≡ tr
 gap_low inside [] rest h low = low
 gap_low inside (b ∷ bs) rest h low = elim (cases_Bool (is_white inside b)) [
   | inl white ↦ white_low inside b white
-  | inr other ↦ let k = rw (other, is_gap) at h in backslash_low b _ k
+  | inr other ↦ let k = rw other at (sym (gap_step inside b bs) ∙ h) in backslash_low b _ k
 ]
 
 pub pieces_low : (depth : ℕ) (opened : List ℕ) (ps : List Piece) (rest bytes : List ℕ) → IsReading depth opened ps rest bytes → StartsLow rest → StartsLow bytes

@@ -16,8 +16,8 @@ use Rattle.bz_tree.specs.Comments.{beside}
 use Rattle.bz_tree.specs.Tree.{Item, leaf, group, Items, no_items, item, Segs, no_segs, seg, Statement, items_of}
 use Rattle.bz_layout.specs.declared.spacing.Gap.{Gap}
 use Rattle.bz_layout.specs.declared.spacing.Gap.TheVariants.{Closed, Space, Apart, Line}
-use Rattle.bz_layout.specs.Broken.{count, is_broken, segs_hold}
-use Rattle.bz_layout.specs.Layout.{opening, closing, has_commas, is_comment, layout, layout_text}
+use Rattle.bz_layout.specs.Walked.{count, is_broken, segs_hold, opening, closing}
+use Rattle.bz_layout.specs.Layout.{has_commas, is_comment, layout, layout_text}
 use Rattle.bz_layout.specs.Pieces.{Piece, indent, gap_bytes, bytes_of}
 use Rattle.bz_layout.specs.Respell.{is_plain, content, is_single, respell}
 use Rattle.bz_layout_laws.specs.EachText.{item_passes, items_pass, segs_pass, HasUtf8}

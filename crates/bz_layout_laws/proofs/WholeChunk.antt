@@ -29,7 +29,8 @@ use Rattle.bz_layout.specs.declared.spacing.Edge.TheVariants.{Start}
 use Rattle.bz_layout.specs.declared.spacing.Gap.TheVariants.{Closed}
 use Rattle.bz_layout.specs.Respell.{is_single}
 use Rattle.bz_layout.specs.Pieces.{Piece, piece, comment_lines, suffix_piece}
-use Rattle.bz_layout.specs.Layout.{opening, is_comment, layout_text}
+use Rattle.bz_layout.specs.Layout.{is_comment, layout_text}
+use Rattle.bz_layout.specs.Walked.{opening}
 use Rattle.bz_layout_laws.specs.FreeLayout.{Choice, own, free, inside, text_of, items_by, statement_by, text_by}
 use Rattle.bz_layout_laws.specs.Legible.{IsLegible, IsLegibleItem, AreLegible, are_some, begins_block, depth_of}
 use Rattle.bz_layout_laws.specs.ReadPieces.{read_piece, read_pieces}

@@ -1,6 +1,6 @@
 -- No token is lost in reading: the words of a statement are those among its tokens.
-use Rattle.std.proofs.Common.{◌≡◌, ℕ, List, [], ◌∷◌, ◌++◌, Bool, true, false, cond, Option, Some, None, refl, sym, ap, subst, ◌∙◌, append_assoc, append-nil}
-use Rattle.std.specs.Prelude.{codes, map, if◌then◌else◌}
+use Rattle.std.proofs.Common.{◌≡◌, ℕ, List, [], ◌∷◌, ◌++◌, Bool, true, false, cond, Option, refl, sym, ap, subst, ◌∙◌, append_assoc, append-nil}
+use Rattle.std.specs.Prelude.{codes, if◌then◌else◌}
 use Rattle.std.specs.Str.{bytes_eq}
 use Rattle.std.proofs.lemmas.Bool.{and_parts, false≢true}
 use Rattle.std.proofs.lemmas.Slice.Eq.{bytes_eq-Decides}
@@ -15,12 +15,20 @@ use Rattle.bz_tree.specs.declared.tree.kinds.Mark.{Mark}
 use Rattle.bz_tree.specs.declared.tree.kinds.Mark.TheVariants.{Open, Close, Comma, Comment as Remark, Newline, Plain}
 use Rattle.bz_tree.specs.declared.tree.kinds.Preceding.{Preceding}
 use Rattle.bz_tree.specs.declared.tree.kinds.Preceding.TheVariants.{Operand, LoadWord, Other}
-use Rattle.bz_tree.specs.Tree.{Item, leaf, group, Segs, Segment, Statement, items_of, segs_of}
-use Rattle.bz_tree.specs.Kinds.{mark_of, kind_mark, operator_mark, group_kind, is_one, is_operator_at}
-use Rattle.bz_tree.specs.Owners.{Own, node, comma, comment, Last, no_token, end_of_node, end_of_comma, is_on, Inside, inside, Entry, a_node, a_comma, a_comment, first_cell, other_cells, later_lines, nodes_in, with_segment, cell_segment, below_last, same_line, segments_from, entries_of}
-use Rattle.bz_tree.specs.Brackets.{leaf_of, own_item, own_items, has_for, group_of, Elem, single, bracket, Elems, no_elems, elem, elem_tokens, elems_tokens, elem_own, elems_own, preceding, own_of, is_single, IsWell, AreWell, is_line, without_lines, end_line}
-use Rattle.bz_tree.specs.Statement.{one_segment, rule_call, is_ident, is_call, is_rule, is_rule_after, segment_of, statement_with, IsStatementOf}
+use Rattle.bz_tree.specs.Tree.{Item, leaf, group, Segs, Segment, Statement, items_of, segs_of, is_call, is_rule, is_rule_after}
+use Rattle.bz_tree.specs.Kinds.{mark_of, kind_mark, operator_mark, group_kind, is_one}
+use Rattle.bz_tree.specs.Owners.{Own, node, comma, comment}
+use Rattle.bz_tree.specs.Cells.{Last, no_token, end_of_node, end_of_comma, inside, Entry, a_node, a_comma, a_comment, first_cell, other_cells, later_lines, nodes_in, with_segment, cell_segment, below_last, same_line, segments_from, entries_of}
+use Rattle.bz_tree.specs.private.KindSteps.{own_item}
+use Rattle.bz_tree.specs.Brackets.{own_items, preceding, is_line, without_lines}
+use Rattle.bz_tree.specs.Elements.{has_for}
+use Rattle.bz_tree.specs.Elements.{group_of}
+use Rattle.bz_tree.specs.Elements.{Elem, single, bracket, Elems, no_elems, elem, elem_tokens, elems_tokens, elem_own, elems_own, own_of, is_single, IsWell, AreWell}
+use Rattle.bz_tree.specs.Statement.{IsStatementOf}
+use Rattle.bz_tree.specs.Elements.{one_segment, rule_call}
+use Rattle.bz_tree.specs.Elements.{segment_of}
 use Rattle.bz_layout_laws.specs.Words.{Word, word_of, words_among, opening, closing, bracket_word, item_words, items_words, segs_words, words_of}
+use Rattle.bz_tree.proofs.Trees.Nested.{tree_of}
 
 -- the words of a list of nodes, and of segments
 abbrev nodes_words : List Item → List Word
@@ -273,17 +281,18 @@ mutual
   rule_words : (xs : List Item) → is_rule xs ≡ true → nodes_words (rule_call xs) ≡ nodes_words xs
   rule_words [] is = refl
   rule_words (leaf kind text ∷ []) is = refl
-  rule_words (leaf kind text ∷ y ∷ ys) is =
-      ap (λ words. item_words (leaf kind text) ++ words) (rule_after_words (y ∷ ys) (and_parts (is_ident kind) (is_rule_after (y ∷ ys)) is).1)
+  rule_words (leaf Identifier text ∷ y ∷ ys) is = ap (λ words. item_words (leaf Identifier text) ++ words) (rule_after_words (y ∷ ys) is)
+  rule_words (leaf _ text ∷ y ∷ ys) is = absurd (false≢true is)
   rule_words (group kind segs one_comma end ∷ xs) is = absurd (false≢true is)
 
   rule_after_words : (xs : List Item) → is_rule_after xs ≡ true → nodes_words (rule_call xs) ≡ nodes_words xs
   rule_after_words [] is = refl
   rule_after_words (leaf kind text ∷ []) is = refl
-  rule_after_words (leaf kind text ∷ y ∷ ys) is =
-      ap (λ words. item_words (leaf kind text) ++ words) (rule_words (y ∷ ys) (and_parts (is_operator_at (codes ".") kind text) (is_rule (y ∷ ys)) is).1)
-  rule_after_words (group kind segs one_comma end ∷ []) is = ap (λ words. words ++ []) (called_words kind segs one_comma end (and_parts (is_call kind) true is).0)
-  rule_after_words (group kind segs one_comma end ∷ y ∷ ys) is = absurd (false≢true (and_parts (is_call kind) false is).1)
+  rule_after_words (leaf Operator text ∷ y ∷ ys) is =
+      ap (λ words. item_words (leaf Operator text) ++ words) (rule_words (y ∷ ys) (and_parts (bytes_eq text (codes ".")) (is_rule (y ∷ ys)) is).1)
+  rule_after_words (leaf _ text ∷ y ∷ ys) is = absurd (false≢true is)
+  rule_after_words (group kind segs one_comma end ∷ []) is = ap (λ words. words ++ []) (called_words kind segs one_comma end is)
+  rule_after_words (group kind segs one_comma end ∷ y ∷ ys) is = absurd (false≢true is)
 
 marked_words : (b : Bool) (xs : List Item) → is_rule xs ≡ b → nodes_words (if b then rule_call xs else xs) ≡ nodes_words xs
 marked_words true xs is = rule_words xs is
@@ -312,7 +321,8 @@ lines_words [] = refl
 lines_words (t ∷ ts) = line_words (mark_of t) t (without_lines ts) refl ∙ ap (λ words. word_of (mark_of t) t.kind t.text ++ words) (lines_words ts)
 
 pub statement_words : (tokens : List Placed) (s : Statement) → IsStatementOf tokens s → words_of s ≡ words_among tokens
-statement_words tokens s is =
+statement_words tokens s of =
+    let is = tree_of tokens s of in
     let owns = elems_own Other is.elems in
     let all = elems_words is.elems Other is.well in
     ap words_of is.is ∙ segment_words owns all.1 ∙ all.0 ∙ ap words_among (sym is.tokens_are) ∙ lines_words tokens

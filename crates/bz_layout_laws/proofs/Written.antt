@@ -7,11 +7,12 @@ use Rattle.bz_token.specs.declared.token.Kind.TheVariants.{Operator, Comment}
 use Rattle.bz_tree.specs.declared.tree.GroupKind.{GroupKind}
 use Rattle.bz_tree.specs.declared.tree.GroupKind.TheVariants.{Paren, Index, ListComp, DictComp}
 use Rattle.bz_tree.specs.Brackets.{is_paren}
-use Rattle.bz_tree.specs.Owners.{Entry, a_node, a_comma}
+use Rattle.bz_tree.specs.Cells.{Entry, a_node, a_comma}
 use Rattle.bz_tree.specs.Tree.{group, Items, no_items, item, Segs, no_segs, seg, list_of, segments}
 use Rattle.bz_layout_laws.specs.Written.{own_lines, suffix_entry, written_entries}
-use Rattle.bz_layout.specs.Broken.{count, have_comments, breaks_by_count, is_broken, segs_hold}
-use Rattle.bz_layout.specs.Layout.{opening, closing, has_commas}
+use Rattle.bz_layout.specs.Broken.{breaks_by_count}
+use Rattle.bz_layout.specs.Walked.{count, have_comments, is_broken, segs_hold, opening, closing}
+use Rattle.bz_layout.specs.Layout.{has_commas}
 use Rattle.bz_layout_laws.specs.Lexemes.{Lexeme, lexeme, comment_lexemes, suffix_lexemes, comma_lexemes, item_lexemes, items_lexemes, ended_lexemes, separated_lexemes}
 use Rattle.bz_layout_laws.proofs.FreeLexemes.{last_comma}
 use Rattle.bz_layout_laws.proofs.Texts.{both}

@@ -3,9 +3,12 @@ use Rattle.std.proofs.Common.{append-nil, [], ◌∷◌, ◌≡◌, ℕ, ◌==�
 use Rattle.bz_tree.specs.declared.tree.GroupKind.{GroupKind}
 use Rattle.bz_tree.specs.Tree.{Segment, group, segs_of}
 use Rattle.bz_tree.specs.Kinds.{is_one}
-use Rattle.bz_tree.specs.Brackets.{own_items, is_paren, group_with, group_of}
-use Rattle.bz_tree.specs.Owners.{Own, no_token, no_empty, inside, entries_of}
-use Rattle.bz_tree.specs.Statement.{one_segment, with_rule_call, segment_with, segment_of}
+use Rattle.bz_tree.specs.Brackets.{own_items, is_paren, group_with}
+use Rattle.bz_tree.specs.Elements.{group_of}
+use Rattle.bz_tree.specs.Owners.{Own}
+use Rattle.bz_tree.specs.Cells.{no_token, no_empty, inside, entries_of}
+use Rattle.bz_tree.specs.Elements.{one_segment, with_rule_call, segment_with}
+use Rattle.bz_tree.specs.Elements.{segment_of}
 use Rattle.bz_layout_laws.specs.Written.{written_entries, HaveNodes}
 use Rattle.bz_layout_laws.proofs.ReadBack.{lines_back}
 use Rattle.bz_token.specs.Common.{is_filled}

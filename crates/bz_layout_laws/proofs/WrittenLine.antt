@@ -5,13 +5,14 @@ use Rattle.std.specs.List.{list_any}
 use Rattle.std.proofs.lemmas.Bool.{or_parts}
 use Rattle.bz_token.specs.declared.token.Kind.TheVariants.{Newline, Comment}
 use Rattle.bz_token.specs.Brackets.{is_line}
-use Rattle.bz_tree.specs.Owners.{a_node}
+use Rattle.bz_tree.specs.Cells.{a_node}
 use Rattle.bz_tree.specs.Tree.{Item, Statement, items_of, list_of}
 use Rattle.bz_layout_laws.specs.Written.{own_lines, suffix_entry, written_entries}
 use Rattle.bz_layout.specs.declared.spacing.Edge.TheVariants.{Start}
 use Rattle.bz_layout.specs.declared.spacing.Gap.TheVariants.{Closed}
 use Rattle.bz_layout.specs.declared.broken.Style.TheVariants.{Broken}
-use Rattle.bz_layout.specs.Layout.{items_pieces, is_comment}
+use Rattle.bz_layout.specs.Layout.{is_comment}
+use Rattle.bz_layout.specs.Walked.{items_pieces}
 use Rattle.bz_layout_laws.specs.Inside.{entries_lexemes, own_segment, without_newlines}
 use Rattle.bz_layout_laws.specs.FreeLayout.{Choice}
 use Rattle.bz_layout_laws.specs.Legible.{IsLegible}

@@ -5,7 +5,7 @@ use Rattle.bz_tree.specs.declared.tree.GroupKind.{GroupKind}
 use Rattle.bz_tree.specs.Tree.{Item, leaf, group, Items, no_items, item, Segs, no_segs, seg, Statement, items_of}
 use Rattle.bz_layout.specs.declared.spacing.Edge.{Edge}
 use Rattle.bz_layout.specs.declared.spacing.Edge.TheVariants.{Start}
-use Rattle.bz_layout.specs.Spacing.{edge_after}
+use Rattle.bz_layout.specs.Walked.{edge_after}
 use Rattle.bz_layout_laws.specs.Legible.{may_follow}
 
 abbrev mutual

@@ -12,9 +12,8 @@ use Rattle.bz_layout.specs.declared.spacing.Edge.TheVariants.{Start}
 use Rattle.bz_layout.specs.declared.spacing.Gap.{Gap}
 use Rattle.bz_layout.specs.declared.spacing.Gap.TheVariants.{Closed, Space, Line}
 use Rattle.bz_layout.specs.Respell.{respell}
-use Rattle.bz_layout.specs.Spacing.{edge_after, gap_before}
-use Rattle.bz_layout.specs.Broken.{count, have_comments, is_broken, segs_hold}
-use Rattle.bz_layout.specs.Layout.{closing, has_commas, is_comment, opening}
+use Rattle.bz_layout.specs.Walked.{edge_after, gap_before, count, have_comments, is_broken, segs_hold, closing, opening}
+use Rattle.bz_layout.specs.Layout.{has_commas, is_comment}
 use Rattle.bz_layout.specs.Pieces.{Piece, piece, bytes_of, comma_if, comments, comment_lines, suffix_piece}
 
 -- How a node stands, and those in it and after it. `own`: as the layout has it. `free`: whether a group stands on lines, how what

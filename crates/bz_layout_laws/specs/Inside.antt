@@ -5,9 +5,9 @@ use Rattle.bz_token.specs.Brackets.{is_line}
 use Rattle.bz_tree.specs.declared.tree.GroupKind.{GroupKind}
 use Rattle.bz_tree.specs.declared.tree.GroupKind.TheVariants.{Paren}
 use Rattle.bz_tree.specs.Kinds.{is_one}
-use Rattle.bz_tree.specs.Owners.{Entry, a_node, a_comma, a_comment}
+use Rattle.bz_tree.specs.Cells.{Entry, a_node, a_comma, a_comment}
 use Rattle.bz_tree.specs.Tree.{Segs, Segment, Statement}
-use Rattle.bz_layout.specs.Broken.{count, is_broken, segs_hold}
+use Rattle.bz_layout.specs.Walked.{count, is_broken, segs_hold}
 use Rattle.bz_layout.specs.Layout.{has_commas}
 use Rattle.bz_layout_laws.specs.Lexemes.{Lexeme, lexeme, item_lexemes}
 

@@ -3,7 +3,7 @@ use Rattle.std.specs.Prelude.{◌≡◌, ◌==◌, codes, ℕ, suc, max, List, B
 use Rattle.std.specs.Prelude.Option.{Some, None}
 use Rattle.std.specs.List.{list_all, list_any}
 use Rattle.bz_token.specs.Blocks.{opener_of}
-use Rattle.bz_token.specs.Lexical.{begins, is_text, is_comment}
+use Rattle.bz_token.specs.Lexical.{is_text, is_comment}
 use Rattle.bz_tree.specs.declared.tree.GroupKind.{GroupKind}
 use Rattle.bz_tree.specs.declared.tree.kinds.Mark.{Mark}
 use Rattle.bz_tree.specs.declared.tree.kinds.Mark.TheVariants.{Comma, Plain}
@@ -12,8 +12,9 @@ use Rattle.bz_tree.specs.Comments.{beside}
 use Rattle.bz_tree.specs.Tree.{Item, leaf, group, Items, no_items, item, Segs, no_segs, seg, Statement, items_of}
 use Rattle.bz_layout.specs.declared.spacing.Edge.{Edge}
 use Rattle.bz_layout.specs.declared.spacing.Edge.TheVariants.{Start}
-use Rattle.bz_layout.specs.Spacing.{edge_after, holds_on}
+use Rattle.bz_layout.specs.Walked.{edge_after, holds_on}
 use Rattle.bz_layout.specs.Layout.{is_comment as is_comment_class}
+use Rattle.bz_token.specs.Common.{begins}
 
 -- no bracket, no comment and no newline
 abbrev pub is_leaf_mark : Mark → Bool

@@ -9,8 +9,8 @@ use Rattle.bz_tree.specs.Tree.{Item, leaf, group, Items, no_items, item, Segs, n
 use Rattle.bz_tree.specs.Brackets.{end_line}
 use Rattle.bz_tree.specs.Statement.{is_aside}
 use Rattle.bz_layout.specs.Respell.{respell}
-use Rattle.bz_layout.specs.Broken.{count, is_broken, segs_hold}
-use Rattle.bz_layout.specs.Layout.{opening, closing, has_commas, is_comment}
+use Rattle.bz_layout.specs.Walked.{count, is_broken, segs_hold, opening, closing}
+use Rattle.bz_layout.specs.Layout.{has_commas, is_comment}
 
 -- a token or comment, and whether it is a comment on the line on which the token before it ends
 pub record Lexeme : Type 0 where

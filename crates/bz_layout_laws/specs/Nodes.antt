@@ -1,7 +1,8 @@
 -- Other nodes in the place of a bracket's nodes.
 use Rattle.std.specs.Prelude.{map}
 use Rattle.bz_tree.specs.Tree.{Item, Segment}
-use Rattle.bz_tree.specs.Owners.{Inside, Entry, a_node, a_comma, a_comment}
+use Rattle.bz_tree.specs.Owners.{Inside}
+use Rattle.bz_tree.specs.Cells.{Entry, a_node, a_comma, a_comment}
 
 abbrev pub entry_mapped : (Item → Item) → Entry → Entry
 entry_mapped f (a_node x) = a_node (f x)

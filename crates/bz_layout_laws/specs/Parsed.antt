@@ -7,10 +7,11 @@ use Rattle.bz_tree.specs.declared.tree.kinds.Mark.{Mark}
 use Rattle.bz_tree.specs.declared.tree.kinds.Mark.TheVariants.{Comma}
 use Rattle.bz_tree.specs.declared.tree.kinds.Preceding.{Preceding}
 use Rattle.bz_tree.specs.declared.tree.kinds.Preceding.TheVariants.{Other}
-use Rattle.bz_tree.specs.Kinds.{kind_mark, group_kind, is_one}
-use Rattle.bz_tree.specs.Brackets.{after_item, is_for_item}
-use Rattle.bz_tree.specs.Statement.{class_of, is_rule, rule_call}
-use Rattle.bz_tree.specs.Tree.{Item, leaf, group, Items, no_items, item, Segs, no_segs, seg, Statement, items_of}
+use Rattle.bz_tree.specs.Kinds.{kind_mark, group_kind, is_one, after_item}
+use Rattle.bz_tree.specs.Brackets.{is_for_item}
+use Rattle.bz_tree.specs.Statement.{class_of}
+use Rattle.bz_tree.specs.Elements.{rule_call}
+use Rattle.bz_tree.specs.Tree.{Item, leaf, group, Items, no_items, item, Segs, no_segs, seg, Statement, items_of, is_rule}
 use Rattle.bz_layout_laws.specs.Inside.{HasShape}
 use Rattle.bz_token.specs.Common.{is_filled}
 

@@ -1,7 +1,7 @@
 -- A form in which segments may stand in a bracket, and from which they are read back.
 use Rattle.std.specs.Prelude.{◌≡◌, ℕ, List, [], ◌∷◌, ◌++◌, map, Bool, true, false, ◌||◌, if◌then◌else◌, Option, Some, None}
 use Rattle.bz_tree.specs.Tree.{Segment}
-use Rattle.bz_tree.specs.Owners.{Entry, a_node, a_comma, a_comment}
+use Rattle.bz_tree.specs.Cells.{Entry, a_node, a_comma, a_comment}
 use Rattle.bz_token.specs.Common.{is_filled}
 
 -- comments on lines of their own

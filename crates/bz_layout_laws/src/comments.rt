@@ -3,7 +3,7 @@
 ghost use Rattle.std.specs.Prelude.{◌≡◌, ℕ, List, ◌∷◌, map, true, false};
 ghost use Rattle.bz_token.specs.Places.{Placed};
 ghost use Rattle.bz_tree.specs.Tree.{Statement, Item};
-ghost use Rattle.bz_tree.specs.Owners.{Entry, a_comment, inside_by_cells};
+ghost use Rattle.bz_tree.specs.Cells.{Entry, a_comment, inside_by_cells};
 ghost use Rattle.bz_layout_laws.specs.Nodes.{entry_mapped, inside_mapped};
 ghost use Rattle.bz_tree.specs.Statement.{IsStatementOf};
 ghost use Rattle.bz_tree.specs.Comments.{owners_of, comments_of, comments_among, AreDealt, times};
@@ -14,7 +14,8 @@ ghost use Rattle.bz_layout_laws.specs.BlockComments.{AreKept};
 /// The comments of the tokens, as they stand in the text, are dealt to the owners in the statement: none is lost, none
 /// is there twice, and each owner has its comments in their order.
 pub fn comments_in_order()
-    ensures { (tokens : List Placed) (s : Statement) → IsStatementOf tokens s → AreDealt (comments_among tokens) (owners_of s) }
+    ensures { (tokens : List Placed) (s : Statement) → IsStatementOf tokens s
+        → AreDealt (comments_among tokens) (owners_of s) }
 {}
 
 /// No comment of the tokens is lost, and none is in the statement twice: each text is as often among the comments of

@@ -19,8 +19,8 @@ pub fn a_statement_is_read_back_in_a_file()
 {}
 
 /// The text of a block that was kept is read back wherever it stands in a file: no block goes on with it, it is a chunk
-/// where the file ends and with the empty line after it, unless a block goes on with what follows, and it is read as the
-/// block.
+/// where the file ends and with the empty line after it, unless a block goes on with what follows, and it is read as
+/// the block.
 pub fn a_block_is_read_back_in_a_file()
     ensures { (depth : ℕ) (s : Statement) → IsKeptBlock depth s → IsReadBack depth s }
 {}

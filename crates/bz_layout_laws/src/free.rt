@@ -9,9 +9,9 @@ ghost use Rattle.bz_layout_laws.specs.FreeLayout.{Choice, Stand, spelled_by, tex
 ghost use Rattle.bz_layout_laws.specs.Lineless.{lineless};
 ghost use Rattle.bz_layout_laws.specs.WellFormed.{IsWellFormed};
 
-/// Each group of a well-formed statement may stand on lines or in place, whatever the layout would choose; only one with
-/// comments has to stand on lines. A string may stand as it is or as the layout spells it. The text is one chunk, and is
-/// read as the statement with its strings as they stand.
+/// Each group of a well-formed statement may stand on lines or in place, whatever the layout would choose; only one
+/// with comments has to stand on lines. A string may stand as it is or as the layout spells it. The text is one chunk,
+/// and is read as the statement with its strings as they stand.
 pub fn lines_of_groups_are_free()
     ensures chunk { (depth : ℕ) (s : Statement) (c : Choice) → IsWellFormed depth s → Stand c (items_of s.nodes)
         → is_comment s.class ≡ false → IsChunk (text_by c s) }

@@ -4,10 +4,12 @@ ghost use Rattle.std.specs.Prelude.{◌≡◌, ℕ, List, ◌∷◌, Bool, true,
 ghost use Rattle.bz_tree.specs.declared.tree.GroupKind.{GroupKind};
 ghost use Rattle.bz_tree.specs.Kinds.{is_one};
 ghost use Rattle.bz_tree.specs.Tree.{Segment, group, segs_of};
-ghost use Rattle.bz_tree.specs.Owners.{Own, no_token, no_empty, inside, inside_by_cells, entries_of};
+ghost use Rattle.bz_tree.specs.Owners.{Own, no_empty, inside};
+ghost use Rattle.bz_tree.specs.Cells.{no_token, inside_by_cells, entries_of};
 ghost use Rattle.bz_layout_laws.specs.Written.{written_entries, HaveNodes};
 ghost use Rattle.bz_tree.specs.Brackets.{own_items, is_paren, group_of};
-ghost use Rattle.bz_tree.specs.Statement.{with_rule_call, segment_of};
+ghost use Rattle.bz_tree.specs.Statement.{segment_of};
+ghost use Rattle.bz_tree.specs.Elements.{with_rule_call};
 ghost use Rattle.bz_token.specs.Common.{is_filled};
 
 /// Segments, each with a node, and end comments that stand in a bracket as `written_entries` has them are read
@@ -19,7 +21,7 @@ pub fn owners_read_back()
     ensures lines { (owns : List Own) (trailing : Bool) (segs : List Segment) (end : List (List ℕ)) → HaveNodes segs
         → entries_of no_token owns ≡ written_entries trailing segs end
         → (inside owns ≡ record { segs = segs; trailing = trailing && is_filled segs; end = end })
-        × (no_empty false owns ≡ true) }
+        × (no_empty owns ≡ true) }
 {}
 
 /// So a group is read back whose inside stands so.
@@ -28,7 +30,7 @@ pub fn group_read_back()
         → HaveNodes segs → entries_of no_token (own_items (is_one kind) owns) ≡ written_entries trailing segs end
         → (group_of kind owns
         ≡ group kind (segs_of segs) (is_paren kind && (length segs == 1) && (trailing && is_filled segs)) end)
-        × (no_empty false (own_items (is_one kind) owns) ≡ true) }
+        × (no_empty (own_items (is_one kind) owns) ≡ true) }
 {}
 
 /// Outside brackets a statement is read back that stands so: the comments above it, its nodes, the comment beside

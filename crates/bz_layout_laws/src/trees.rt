@@ -6,8 +6,9 @@ ghost use Rattle.bz_token.specs.Reading.{AreTokensOf};
 ghost use Rattle.bz_tree.specs.declared.tree.kinds.Preceding.TheVariants.{Other};
 ghost use Rattle.bz_tree.specs.Chunk.{IsPlain, IsStatementIn};
 ghost use Rattle.bz_tree.specs.Grammar.{IsStatement};
-ghost use Rattle.bz_tree.specs.Statement.{IsStatementOf, class_of, first_seen, is_rule, rule_call};
-ghost use Rattle.bz_tree.specs.Tree.{Statement, items_of};
+ghost use Rattle.bz_tree.specs.Statement.{IsStatementOf, class_of, first_seen};
+ghost use Rattle.bz_tree.specs.Elements.{rule_call};
+ghost use Rattle.bz_tree.specs.Tree.{Statement, items_of, is_rule};
 ghost use Rattle.bz_layout.specs.Layout.{layout_text};
 ghost use Rattle.bz_layout_laws.specs.Legible.{IsLegible, depth_of};
 ghost use Rattle.bz_layout_laws.specs.Parsed.{HaveKinds, IsParsed, plain_calls};
@@ -34,8 +35,8 @@ pub fn the_grammar_stays()
         → IsStatement (items_of t.nodes) }
 {}
 
-/// So `bz_tree::parse` reads the text of a well-formed statement as the statement but for its lines, with its strings as
-/// they are spelled, and as nothing else.
+/// So `bz_tree::parse` reads the text of a well-formed statement as the statement but for its lines, with its strings
+/// as they are spelled, and as nothing else.
 pub fn a_statement_is_parsed_again()
     ensures some { (first depth : ℕ) (s : Statement) → IsWellFormed depth s
         → (t : Statement) × IsStatementIn first depth (layout_text s) t

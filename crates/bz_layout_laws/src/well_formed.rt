@@ -13,9 +13,9 @@ ghost use Rattle.bz_layout_laws.specs.Spelled.{spelled_statement};
 ghost use Rattle.bz_layout_laws.specs.Lineless.{lineless};
 ghost use Rattle.bz_layout_laws.specs.WellFormed.{IsWellFormed};
 
-/// By the grammar, no word that begins a block stands first in a well-formed statement, and no node makes one operator with
-/// the `.`, prefix, star or index's colon that it stands after. So the statement is legible: what is said of legible
-/// statements holds of it.
+/// By the grammar, no word that begins a block stands first in a well-formed statement, and no node makes one operator
+/// with the `.`, prefix, star or index's colon that it stands after. So the statement is legible: what is said of
+/// legible statements holds of it.
 pub fn what_is_well_formed_is_legible()
     ensures legible { (depth : ℕ) (s : Statement) → IsWellFormed depth s → IsLegible s }
     ensures block { (depth : ℕ) (s : Statement) → IsWellFormed depth s → begins_block (items_of s.nodes) ≡ false }

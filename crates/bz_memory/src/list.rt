@@ -145,7 +145,8 @@ pub fn collect<T: Drop, I: Iterator<Item = T> + Drop>(
 ) -> Result<Vec<T>, NoMemory>
     requires can { I.can_next items }
     requires finite { IsFinite (I.remaining items) }
-    ensures ran { IfOk result (λ v. (xs : List T) × DrainsIf I.next_gives ⊤ items xs × ((v.items ≡ xs) × (vec_len v ≡ length xs))) }
+    ensures ran { IfOk result
+        (λ v. (xs : List T) × DrainsIf I.next_gives ⊤ items xs × ((v.items ≡ xs) × (vec_len v ≡ length xs))) }
 {
     items.collect(alloc).map_err(refused)
 }

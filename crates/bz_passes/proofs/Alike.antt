@@ -1,9 +1,9 @@
 -- Two slots that no target and no command of some passes tells apart give the same.
 use Rattle.std.proofs.Common.{◌≡◌, Bool, true, false, ◌&&◌, ◌||◌, List, [], ◌∷◌, ◌++◌, refl, sym, ◌∙◌, ap, subst}
 use Rattle.std.specs.List.{list_any, list_all}
-use Rattle.bz_passes.specs.Passes.{Slot, Meaning, Pass, marked, some_execution, with_mark}
+use Rattle.bz_passes.specs.Passes.{Slot, Meaning, Pass, marked}
 use Rattle.bz_passes.specs.Alike.{AreAlike, AreAlikeTo, CommandsKeepAlike, GiveTheSame, KeepsAlike, MarksAlike, PassesKeepAlike}
-use Rattle.bz_passes.specs.Exchange.{kept_alone, kept_and, kept_of, logs_alone, slot_after, slot_after_commands, slot_after_pass, some_alone, some_not_found, some_of_commands_alone, told}
+use Rattle.bz_passes.specs.Exchange.{kept_alone, kept_and, kept_of, logs_alone, slot_after, slot_after_commands, slot_after_pass, some_alone, some_not_found, some_of_commands_alone, told, some_execution, with_mark}
 use Rattle.bz_passes.proofs.ExchangeLaw.{any_more, kept_more, log_by_pass, missing_lem, some_alone_lem}
 
 -- one pass, where both slots are marked or neither

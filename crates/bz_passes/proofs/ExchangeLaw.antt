@@ -1,8 +1,9 @@
 -- The law Exchange, by induction on commands, passes and slots.
 use Rattle.std.proofs.Common.{◌≡◌, Bool, true, false, ◌||◌, List, [], ◌∷◌, ◌++◌, map, refl, sym, ◌∙◌, ap, append_assoc, append-nil}
 use Rattle.std.specs.List.{flat_map, list_any}
-use Rattle.bz_passes.specs.Passes.{Slot, Meaning, Pass, Marked, marked, executed, entries, slots_after_commands, log_of_commands, slots_after_pass, missing, is_missing, some_missing, slots_after, log_of, meets, some_of_commands, some_execution}
-use Rattle.bz_passes.specs.Exchange.{Exchange, Kept, IsLeftBy, logs_alone, slot_after_commands, slot_after_pass, slot_after, kept_alone, logs_of, logs_and, kept_and, kept_of, told, some_not_found, no_slot, some_of_commands_alone, some_alone}
+use Rattle.bz_passes.proofs.Executions.{said_of_command}
+use Rattle.bz_passes.specs.Passes.{Slot, Meaning, Pass, Marked, marked, executed, slots_after_commands, executions, said, slots_after_pass, missing, slots_after, log_of}
+use Rattle.bz_passes.specs.Exchange.{Exchange, Kept, IsLeftBy, logs_alone, slot_after_commands, slot_after_pass, slot_after, kept_alone, logs_of, logs_and, kept_and, kept_of, told, some_not_found, no_slot, some_of_commands_alone, some_alone, entries, some_missing, meets, some_of_commands, some_execution, is_missing}
 
 -- a `map` of a `map`
 map_map : {A B C : Type 0} (g : B → C) (f : A → B) (xs : List A) → map g (map f xs) ≡ map (λ x. g (f x)) xs
@@ -35,9 +36,11 @@ slots_alone m (p ∷ ps) slots =
     ∙ map_map _ _ slots
 
 log_joined : {S T C M : Type 0} (m : Meaning S T C M) (cs : List C) (xs : List (Marked S))
-    → log_of_commands m cs xs ≡ flat_map (λ log. log) (logs_of m cs xs)
+    → said m (executions m cs xs) ≡ flat_map (λ log. log) (logs_of m cs xs)
 log_joined m [] xs = refl
-log_joined m (c ∷ cs) xs = ap (λ l. flat_map (entries m c) xs ++ l) (log_joined m cs (map (executed m c) xs))
+log_joined m (c ∷ cs) xs =
+    said_of_command m c xs (executions m cs (map (executed m c) xs))
+    ∙ ap (λ l. flat_map (entries m c) xs ++ l) (log_joined m cs (map (executed m c) xs))
 
 pub log_by_pass : {S T C M : Type 0} (m : Meaning S T C M) (ps : List (Pass T C)) (slots : List (Slot S))
     → log_of m ps slots ≡ told m ps (kept_of m ps slots)

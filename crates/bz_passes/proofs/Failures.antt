@@ -3,8 +3,8 @@ use Rattle.std.proofs.Common.{◌≡◌, Bool, true, false, ◌||◌, List, [], 
 use Rattle.std.specs.Prelude.{if◌then◌else◌}
 use Rattle.std.specs.List.{flat_map, list_any}
 use Rattle.std.proofs.lemmas.List.Concat.{flat_map-append}
-use Rattle.bz_passes.specs.Passes.{Slot, Meaning, Pass, Marked, marked, executed, entries, slots_after_pass, slots_after, meets, some_of_commands, some_execution}
-use Rattle.bz_passes.specs.Exchange.{Kept, logs_alone, slot_after, slot_after_pass, kept_alone, logs_of, logs_and, kept_and, kept_of}
+use Rattle.bz_passes.specs.Passes.{Slot, Meaning, Pass, Marked, marked, executed, slots_after_pass, slots_after}
+use Rattle.bz_passes.specs.Exchange.{Kept, logs_alone, slot_after, slot_after_pass, kept_alone, logs_of, logs_and, kept_and, kept_of, entries, meets, some_of_commands, some_execution}
 use Rattle.bz_passes.proofs.ExchangeLaw.{slots_alone, map_more, kept_more}
 
 -- the slots after a script, with one slot more

@@ -1,5 +1,6 @@
 pub mod Alike
 pub mod Cuts
+pub mod Executions
 pub mod ExchangeLaw
 pub mod Steps
 pub mod Slots

@@ -1,7 +1,7 @@
 -- The positions where a test holds: in order, all of them, and no other.
-use Rattle.std.proofs.Common.{◌≡◌, ℕ, suc, zero, ◌<◌, ◌≤◌, ◌+◌, Bool, true, false, if◌then◌else◌, List, [], ◌∷◌, ◌++◌, length, get_or, Option, Some, None, refl, sym, ◌∙◌, ap, arith, ◌||◌, min, ltb, leb, leb-true, leb-false, ltb-true, ltb-false, take, is_none}
+use Rattle.std.proofs.Common.{◌≡◌, ℕ, suc, zero, ◌<◌, ◌≤◌, ◌+◌, Bool, true, false, if◌then◌else◌, List, [], ◌∷◌, ◌++◌, length, get_or, Option, Some, None, refl, sym, ◌∙◌, ap, arith, ◌||◌, leb, leb-true, leb-false, take, is_none}
 use Rattle.bz_passes.specs.Asked.{IsFirstFrom}
-use Rattle.bz_passes.specs.private.Indexes.{positions, IsLeastFrom, earlier, IsIndex, named, asks_for}
+use Rattle.bz_passes.specs.private.Indexes.{positions, IsLeastFrom, IsIndex, named, asks_for}
 use Rattle.bz_passes.specs.declared.index.Index.{Index}
 use Rattle.std.specs.List.Sorted.{IsNonDecreasingBy}
 use Rattle.std.proofs.lemmas.Grind.{common_steps}
@@ -123,20 +123,6 @@ first a b h = rw h refl
 second : (a b : Bool) → b ≡ true → (a || b) ≡ true
 second true b h = refl
 second false b h = h
-
--- the earlier of two first positions is the first of both tests
-pub earlier_first : {X : Type 0} (p q test : X → Bool) (xs : List X) (from : ℕ) (a b : Option ℕ) → ((x : X) → test x ≡ (p x || q x))
-    → IsFirstFrom p xs from a → IsFirstFrom q xs from b → IsFirstFrom test xs from (earlier a b)
-earlier_first p q test xs from None None is ha hb = λ i d le k. is (get_or xs i d) ∙ neither _ _ (ha i d le k) (hb i d le k)
-earlier_first p q test xs from (Some i) None is ha hb = (ha.0, ha.1, (λ d. is (get_or xs i d) ∙ first _ _ (ha.2 d)), λ j d le k. is (get_or xs j d) ∙ neither _ _ (ha.3 j d le k) (hb j d le (let w = ha.1 in omega (arith, w, k))))
-earlier_first p q test xs from None (Some i) is ha hb = (hb.0, hb.1, (λ d. is (get_or xs i d) ∙ second _ _ (hb.2 d)), λ j d le k. is (get_or xs j d) ∙ neither _ _ (ha j d le (let w = hb.1 in omega (arith, w, k))) (hb.3 j d le k))
-earlier_first p q test xs from (Some i) (Some j) is ha hb =
-    elim (ltb i j) as (λ t. ltb i j ≡ t → IsFirstFrom test xs from (Some (min i j))) [
-      | true ↦ λ c. let lt = ltb-true i j c in let m : min i j ≡ i = omega (arith, lt) in
-          rw m (ha.0, ha.1, (λ d. is (get_or xs i d) ∙ first _ _ (ha.2 d)), λ k d le l. is (get_or xs k d) ∙ neither _ _ (ha.3 k d le l) (hb.3 k d le (omega (arith, lt, l))))
-      | false ↦ λ c. let ge = ltb-false i j c in let m : min i j ≡ j = omega (arith, ge) in
-          rw m (hb.0, hb.1, (λ d. is (get_or xs j d) ∙ second _ _ (hb.2 d)), λ k d le l. is (get_or xs k d) ∙ neither _ _ (ha.3 k d le (omega (arith, ge, l))) (hb.3 k d le l))
-    ] refl
 
 pub rising_list : {X : Type 0} (test : X → Bool) (xs : List X) (ps : List ℕ) → ps ≡ positions test 0 xs → IsNonDecreasingBy (λ p. p) ps
 rising_list test xs ps is = rw is (λ i j d le h. rising test 0 xs i j d le h)

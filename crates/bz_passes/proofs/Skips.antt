@@ -2,8 +2,8 @@
 use Rattle.std.proofs.Common.{◌≡◌, ℕ, zero, suc, ◌<◌, ◌≤◌, ◌+◌, Bool, true, false, ◌||◌, List, [], ◌∷◌, ◌++◌, length, take, drop, get_or, refl, sym, ◌∙◌, ap, arith, append_assoc, length-drop, get_or-drop, drop-drop, take-add, ◌-◌}
 use Rattle.std.proofs.lemmas.Grind.{common_steps}
 use Rattle.std.proofs.Math.Nat.{suc_inj}
-use Rattle.bz_passes.specs.Passes.{Slot, Meaning, Pass, with_mark, marked}
-use Rattle.bz_passes.specs.Exchange.{Kept, Fits, slot_after_commands, slot_after_pass, slot_after, logs_alone, logs_and, pass_alone, pass_and, kept_alone, kept_and, some_of_commands_alone, some_alone}
+use Rattle.bz_passes.specs.Passes.{Slot, Meaning, Pass, marked}
+use Rattle.bz_passes.specs.Exchange.{Kept, Fits, slot_after_commands, slot_after_pass, slot_after, logs_alone, logs_and, pass_alone, pass_and, kept_alone, kept_and, some_of_commands_alone, some_alone, with_mark}
 
 -- a pass that does not mark the slot: it stays, nothing is told, and no test is met
 commands_stay : {S T C M : Type 0} (m : Meaning S T C M) (cs : List C) (x : Slot S) → (slot_after_commands m cs (with_mark false x)).slot ≡ x

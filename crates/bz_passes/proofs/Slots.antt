@@ -1,8 +1,7 @@
 -- One slot after the other, in a loop over all of them.
-use Rattle.std.proofs.Common.{◌≡◌, ℕ, ◌<◌, ◌+◌, List, [], ◌∷◌, ◌++◌, length, map, take, drop, get_or, sym, ◌∙◌, ap}
-use Rattle.std.proofs.lemmas.List.{drop_more, take_more, take_more_set}
+use Rattle.std.proofs.Common.{◌≡◌, ℕ, ◌<◌, ◌+◌, List, [], ◌∷◌, ◌++◌, length, take, drop, get_or, sym, ◌∙◌, ap}
+use Rattle.std.proofs.lemmas.List.{drop_more, take_more}
 use Rattle.std.proofs.Math.ListN.{set}
-use Rattle.bz_passes.proofs.ExchangeLaw.{map_more}
 use Rattle.bz_passes.proofs.Steps.{rest_after_write}
 
 -- the slots that are done, as they were
@@ -12,19 +11,6 @@ done_more xs ys i d h l same =
     let left : get_or xs i d ∷ drop (i + 1) xs ≡ get_or ys i d ∷ drop (i + 1) ys = sym (drop_more xs i d h) ∙ same ∙ drop_more ys i d l in
     let head : get_or xs i d ≡ get_or ys i d = cc in
     take_more ys i d l ∙ ap (λ z. take i ys ++ z ∷ []) (sym head)
-
-pub seen_more : {X Y : Type 0} (seen : X → Y) (xs ys : List X) (i : ℕ) (d : X) → i < length xs → i < length ys → drop i xs ≡ drop i ys
-    → map seen (take (i + 1) ys) ≡ map seen (take i ys) ++ seen (get_or xs i d) ∷ []
-seen_more seen xs ys i d h l same = ap (map seen) (done_more xs ys i d h l same) ∙ map_more seen (take i ys) (get_or xs i d)
-
--- and as they are
-pub done_written : {X Y : Type 0} (seen : X → Y) (f : Y → Y) (xs ys : List X) (i : ℕ) (d y : X) → i < length xs → i < length ys → drop i xs ≡ drop i ys
-    → seen y ≡ f (seen (get_or xs i d)) → map seen (take i xs) ≡ map f (map seen (take i ys))
-    → map seen (take (i + 1) (set xs i y)) ≡ map f (map seen (take (i + 1) ys))
-done_written seen f xs ys i d y h l same made before =
-    ap (map seen) (take_more_set xs i y h) ∙ map_more seen (take i xs) y
-    ∙ ap (λ z. z ++ seen y ∷ []) before ∙ ap (λ z. map f (map seen (take i ys)) ++ z ∷ []) made
-    ∙ sym (ap (map f) (seen_more seen xs ys i d h l same) ∙ map_more f (map seen (take i ys)) (seen (get_or xs i d)))
 
 -- the slots that are still to come
 pub rest_same : {X : Type 0} (xs ys : List X) (i : ℕ) (d y : X) → i < length xs → i < length ys → drop i xs ≡ drop i ys

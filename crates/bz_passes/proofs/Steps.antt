@@ -6,8 +6,8 @@ use Rattle.std.proofs.Math.Nat.{suc_inj}
 use Rattle.std.proofs.lemmas.Grind.{common_steps}
 use Rattle.std.proofs.Common.{arith}
 use Rattle.std.proofs.Math.ListN.{set}
-use Rattle.bz_passes.specs.Passes.{Slot, Meaning, Pass, Marked, executed, marked, missing, is_missing}
-use Rattle.bz_passes.specs.Exchange.{Kept, logs_alone, logs_and, slot_after_pass, slot_after, kept_alone, kept_and, Fits, pass_and, pass_alone, no_slot, some_of_commands_alone, some_alone, told, some_not_found}
+use Rattle.bz_passes.specs.Passes.{Slot, Meaning, Pass, Marked, executed, marked, missing}
+use Rattle.bz_passes.specs.Exchange.{Kept, logs_alone, logs_and, slot_after_pass, slot_after, kept_alone, kept_and, Fits, pass_and, pass_alone, no_slot, some_of_commands_alone, some_alone, told, some_not_found, is_missing}
 
 -- the element at i is written, and the rest is still to come
 pub rest_after_write : {X : Type 0} (xs : List X) (i : ℕ) (y : X) → i < length xs → drop (i + 1) (set xs i y) ≡ drop (i + 1) xs

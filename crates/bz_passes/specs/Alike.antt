@@ -1,8 +1,8 @@
 -- Two slots that no target and no command of some passes tells apart.
 -- Begin with `AreAlike` and `GiveTheSame`.
 use Rattle.std.specs.Prelude.{◌≡◌, Bool, true, List, [], ◌∷◌, ◌++◌}
-use Rattle.bz_passes.specs.Passes.{Slot, Meaning, Pass, log_of, some_execution, some_missing}
-use Rattle.bz_passes.specs.Exchange.{Kept, IsLeftBy, kept_alone, slot_after_pass, some_alone}
+use Rattle.bz_passes.specs.Passes.{Slot, Meaning, Pass, log_of}
+use Rattle.bz_passes.specs.Exchange.{Kept, IsLeftBy, kept_alone, slot_after_pass, some_alone, some_execution, some_missing}
 
 -- command by command, the same is said of both, and both are changed and fail or neither
 abbrev pub AreAlikeTo : {S T C M : Type 0} → Meaning S T C M → (C → Slot S → Bool) → (C → Slot S → Bool) → List C → Slot S → Slot S → Type 0

@@ -1,10 +1,10 @@
--- The texts of what a run tells, each kind by itself.
+-- The texts of what a run tells, each kind by itself (this project's own rule).
 -- Begin with `line_text`, `message_text` and `failure_text`.
 use Rattle.std.specs.Prelude.{ℕ, List, [], ◌∷◌}
 use Rattle.bz_passes.specs.declared.entry.Entry.{Entry}
 use Rattle.bz_passes.specs.declared.entry.Entry.TheVariants.{Line, Warning, Failure}
 
--- the text of an entry where it is a line, where it is a message, and where it is the message of a failure
+-- the text of an entry where it is a line, where it is a message (a warning or a failure), and where it is a failure
 abbrev pub line_text : Entry → List (List ℕ)
 line_text (Line text) = text ∷ []
 line_text _ = []

@@ -1,7 +1,39 @@
 -- A script slot by slot: each slot by itself under the whole script, what is kept of the slots so far, and the log told of it at the end.
-use Rattle.std.specs.Prelude.{length, ◌≡◌, Bool, false, ◌||◌, List, [], ◌∷◌, ◌++◌, map}
+use Rattle.std.specs.Prelude.{length, ◌≡◌, Bool, false, ◌||◌, ◌&&◌, not, if◌then◌else◌, List, [], ◌∷◌, ◌++◌, map}
 use Rattle.std.specs.List.{flat_map, list_any}
-use Rattle.bz_passes.specs.Passes.{Slot, Meaning, Pass, Marked, marked, executed, entries, slots_after_pass, missing, is_missing, some_missing, slots_after, log_of, meets, some_execution}
+use Rattle.bz_passes.specs.Passes.{Slot, Meaning, Pass, Marked, marked, executed, slots_after_pass, missing, slots_after, log_of}
+
+-- The log and the tests of executions, command by command over all slots, as calls keep count of them.
+abbrev pub with_mark : {S : Type 0} → Bool → Slot S → Marked S
+with_mark mark slot = record { mark = mark; slot = slot }
+
+-- what a command says of a slot, which may be marked
+abbrev pub entries : {S T C M : Type 0} → Meaning S T C M → C → Marked S → List M
+entries m command x = if x.mark then m.says command x.slot else []
+
+-- whether an execution meets this test of its command and of the slot that it finds
+abbrev pub meets : {S C : Type 0} → (C → Slot S → Bool) → C → Marked S → Bool
+meets test command x = if x.mark then test command x.slot else false
+
+-- whether one of the executions does
+abbrev pub some_of_commands : {S T C M : Type 0} → Meaning S T C M → (C → Slot S → Bool) → List C → List (Marked S) → Bool
+some_of_commands m test [] xs = false
+some_of_commands m test (c ∷ cs) xs = list_any (meets test c) xs || some_of_commands m test cs (map (executed m c) xs)
+
+abbrev pub some_execution : {S T C M : Type 0} → Meaning S T C M → (C → Slot S → Bool) → List (Pass T C) → List (Slot S) → Bool
+some_execution m test [] slots = false
+some_execution m test (p ∷ ps) slots =
+    some_of_commands m test p.commands (map (marked m p.target) slots) || some_execution m test ps (slots_after_pass m p slots)
+
+-- whether a target has to mark something and marks nothing
+abbrev pub is_missing : {S T C M : Type 0} → Meaning S T C M → T → Bool → Bool
+is_missing m target found = not found && m.must_mark target
+
+-- whether the target of one of the passes does
+abbrev pub some_missing : {S T C M : Type 0} → Meaning S T C M → List (Pass T C) → List (Slot S) → Bool
+some_missing m [] slots = false
+some_missing m (p ∷ ps) slots =
+    is_missing m p.target (list_any (m.marks p.target) slots) || some_missing m ps (slots_after_pass m p slots)
 
 -- What is kept of the slots so far: for each pass whether something was marked, and for each of its commands the log.
 pub record Kept (M : Type 0) : Type 0 where

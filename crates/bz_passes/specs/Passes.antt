@@ -1,14 +1,17 @@
--- A script over the slots of a file: passes one after another, and in a pass command by command (the order is this project's own rule).
+-- A script over the slots of a file: passes one after another, and in a pass command by command (the order is this project's
+-- own rule).
 -- Begin with `Slot`, `Meaning` and `Pass`.
--- It is stated for any statements S, targets T, commands C and log entries M. A log has one list of entries for lines and messages, since their order is one.
-use Rattle.std.specs.Prelude.{false, ◌||◌, Bool, if◌then◌else◌, List, [], ◌∷◌, ◌++◌, map, Option}
+-- It is stated for any statements S, targets T, commands C and log entries M, the arguments in braces. A log has one list of
+-- entries for lines and messages, since their order is one.
+use Rattle.std.specs.Prelude.{◌≢◌, Any, Bool, not, ◌&&◌, if◌then◌else◌, List, [], ◌∷◌, ◌++◌, map, filter, fold, Option}
 use Rattle.std.specs.List.{flat_map, list_any}
 
 -- a slot of a file: a statement, or nothing where it was deleted
 abbrev pub Slot : Type 0 → Type 0
 Slot S = Option S
 
--- what the targets and the commands of a language mean, each on one slot
+-- What targets mean: which slots one marks, whether it has to mark some, and the entry where it marks none. What commands mean:
+-- what one leaves in a slot, and the entries for what it says there.
 pub record Meaning (S T C M : Type 0) : Type 0 where
   pub marks : T → Slot S → Bool
   pub must_mark : T → Bool
@@ -26,66 +29,60 @@ pub record Marked (S : Type 0) : Type 0 where
   pub mark : Bool
   pub slot : Slot S
 
-abbrev pub with_mark : {S : Type 0} → Bool → Slot S → Marked S
-with_mark mark slot = record { mark = mark; slot = slot }
+module _ {S T C M : Type 0} (m : Meaning S T C M) where
+  -- a slot with the mark of a target
+  abbrev pub marked : T → Slot S → Marked S
+  marked target slot = record { mark = m.marks target slot; slot = slot }
 
-abbrev pub marked : {S T C M : Type 0} → Meaning S T C M → T → Slot S → Marked S
-marked m target slot = with_mark (m.marks target slot) slot
+  -- One command on a slot: where the slot is marked, this is an execution; where it is not, nothing happens.
+  abbrev pub executed : C → Marked S → Marked S
+  executed command x = record { mark = x.mark; slot = if x.mark then m.after command x.slot else x.slot }
 
--- One command on a slot: where the slot is marked, this is an execution; where it is not, nothing happens.
-abbrev pub executed : {S T C M : Type 0} → Meaning S T C M → C → Marked S → Marked S
-executed m command x = record { mark = x.mark; slot = if x.mark then m.after command x.slot else x.slot }
+  -- command by command over all slots
+  abbrev pub slots_after_commands : List C → List (Marked S) → List (Marked S)
+  slots_after_commands cs xs = fold (λ ys c. map (executed c) ys) xs cs
 
-abbrev pub entries : {S T C M : Type 0} → Meaning S T C M → C → Marked S → List M
-entries m command x = if x.mark then m.says command x.slot else []
+  -- one pass: its target marks slots once, at its start, and a mark stays whatever the commands change
+  abbrev pub slots_after_pass : Pass T C → List (Slot S) → List (Slot S)
+  slots_after_pass p slots = map (λ x. x.slot) (slots_after_commands p.commands (map (marked p.target) slots))
 
--- command by command over all slots
-abbrev pub slots_after_commands : {S T C M : Type 0} → Meaning S T C M → List C → List (Marked S) → List (Marked S)
-slots_after_commands m [] xs = xs
-slots_after_commands m (c ∷ cs) xs = slots_after_commands m cs (map (executed m c) xs)
+  -- the passes one after another
+  abbrev pub slots_after : List (Pass T C) → List (Slot S) → List (Slot S)
+  slots_after ps slots = fold (λ left p. slots_after_pass p left) slots ps
 
-abbrev pub log_of_commands : {S T C M : Type 0} → Meaning S T C M → List C → List (Marked S) → List M
-log_of_commands m [] xs = []
-log_of_commands m (c ∷ cs) xs = flat_map (entries m c) xs ++ log_of_commands m cs (map (executed m c) xs)
+-- an execution: a command, and what it finds in a slot that is marked
+pub record Execution (S C : Type 0) : Type 0 where
+  pub command : C
+  pub found : Slot S
 
--- a pass resolves its target once, at its start
-abbrev pub slots_after_pass : {S T C M : Type 0} → Meaning S T C M → Pass T C → List (Slot S) → List (Slot S)
-slots_after_pass m p slots = map (λ x. x.slot) (slots_after_commands m p.commands (map (marked m p.target) slots))
+module _ {S T C M : Type 0} (m : Meaning S T C M) where
+  -- the executions of commands: command by command, and of each slot by slot
+  abbrev pub executions : List C → List (Marked S) → List (Execution S C)
+  executions [] xs = []
+  executions (c ∷ cs) xs =
+      map (λ x. record { command = c; found = x.slot }) (filter (λ x. x.mark) xs) ++ executions cs (map (executed m c) xs)
 
--- whether a target has to mark something and marks nothing, and what is said of it
-abbrev pub is_missing : {S T C M : Type 0} → Meaning S T C M → T → Bool → Bool
-is_missing m target found = if found then false else m.must_mark target
+  -- the executions of the passes, one after another
+  abbrev pub executions_of : List (Pass T C) → List (Slot S) → List (Execution S C)
+  executions_of [] slots = []
+  executions_of (p ∷ ps) slots =
+      executions p.commands (map (marked m p.target) slots) ++ executions_of ps (slots_after_pass m p slots)
 
-abbrev pub missing : {S T C M : Type 0} → Meaning S T C M → T → Bool → List M
-missing m target found = if is_missing m target found then m.not_found target ∷ [] else []
+  -- some execution leaves in its slot something else than it finds
+  abbrev pub Changes : List (Pass T C) → List (Slot S) → Type 0
+  Changes ps slots = Any (λ e. m.after e.command e.found ≢ e.found) (executions_of ps slots)
 
--- the passes one after another
-abbrev pub slots_after : {S T C M : Type 0} → Meaning S T C M → List (Pass T C) → List (Slot S) → List (Slot S)
-slots_after m [] slots = slots
-slots_after m (p ∷ ps) slots = slots_after m ps (slots_after_pass m p slots)
+  -- what executions say
+  abbrev pub said : List (Execution S C) → List M
+  said es = flat_map (λ e. m.says e.command e.found) es
 
-abbrev pub log_of : {S T C M : Type 0} → Meaning S T C M → List (Pass T C) → List (Slot S) → List M
-log_of m [] slots = []
-log_of m (p ∷ ps) slots =
-    (missing m p.target (list_any (m.marks p.target) slots) ++ log_of_commands m p.commands (map (marked m p.target) slots))
-    ++ log_of m ps (slots_after_pass m p slots)
+  -- what is said of a target that has to mark something and marks nothing; `found`: it marks some slot
+  abbrev pub missing : T → Bool → List M
+  missing target found = if not found && m.must_mark target then m.not_found target ∷ [] else []
 
--- whether an execution meets this test of its command and of the slot that it found
-abbrev pub meets : {S C : Type 0} → (C → Slot S → Bool) → C → Marked S → Bool
-meets test command x = if x.mark then test command x.slot else false
-
--- whether one of the executions does
-abbrev pub some_of_commands : {S T C M : Type 0} → Meaning S T C M → (C → Slot S → Bool) → List C → List (Marked S) → Bool
-some_of_commands m test [] xs = false
-some_of_commands m test (c ∷ cs) xs = list_any (meets test c) xs || some_of_commands m test cs (map (executed m c) xs)
-
-abbrev pub some_execution : {S T C M : Type 0} → Meaning S T C M → (C → Slot S → Bool) → List (Pass T C) → List (Slot S) → Bool
-some_execution m test [] slots = false
-some_execution m test (p ∷ ps) slots =
-    some_of_commands m test p.commands (map (marked m p.target) slots) || some_execution m test ps (slots_after_pass m p slots)
-
--- whether the target of one of the passes has to mark something and marks nothing
-abbrev pub some_missing : {S T C M : Type 0} → Meaning S T C M → List (Pass T C) → List (Slot S) → Bool
-some_missing m [] slots = false
-some_missing m (p ∷ ps) slots =
-    is_missing m p.target (list_any (m.marks p.target) slots) || some_missing m ps (slots_after_pass m p slots)
+  -- The log: pass by pass, first what is said of the target, then what the executions say.
+  abbrev pub log_of : List (Pass T C) → List (Slot S) → List M
+  log_of [] slots = []
+  log_of (p ∷ ps) slots =
+      (missing p.target (list_any (m.marks p.target) slots) ++ said (executions p.commands (map (marked m p.target) slots)))
+      ++ log_of ps (slots_after_pass m p slots)

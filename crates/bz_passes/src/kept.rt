@@ -2,8 +2,8 @@
 
 ghost use Rattle.std.specs.Prelude.{◌≡◌, ◌++◌, [], List, map, IfOk, OnOk};
 ghost use Rattle.std.specs.List.{flat_map};
-ghost use Rattle.bz_passes.specs.Passes.{Slot, is_missing, missing, log_of};
-ghost use Rattle.bz_passes.specs.Exchange.{Fits, no_slot, kept_of, told, some_not_found};
+ghost use Rattle.bz_passes.specs.Passes.{Slot, missing, log_of};
+ghost use Rattle.bz_passes.specs.Exchange.{Fits, no_slot, kept_of, told, some_not_found, is_missing};
 
 use crate::language::Language;
 use crate::log::Log;

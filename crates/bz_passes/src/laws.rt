@@ -1,4 +1,5 @@
-//! Laws of passes: one statement after another, or one command after another; statements that a script does not tell apart.
+//! Laws of passes: one statement after another, or one command after another; statements that a script does not tell
+//! apart.
 
 ghost use Rattle.std.specs.Prelude.{Bool, List};
 ghost use Rattle.bz_passes.specs.Passes.{Meaning, Pass, Slot};

@@ -125,7 +125,8 @@ impl<T: Keyed, C> Passes<T, C> {
     }
 }
 
-/// The same, by each pass in turn.
+/// The position, `from` or later, of the first pass that may mark what has this key. Each is looked at in turn, which is
+/// fastest where they are few.
 fn first_of_few<T: Keyed, C>(passes: &[Pass<T, C>], key: Key<'_>, from: usize) -> Option<usize>
     ensures { IsFirstFrom (λ pass. may_mark key.entry (T.asked pass.target)) passes.now from result }
 {

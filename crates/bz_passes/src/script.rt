@@ -1,9 +1,9 @@
 //! A whole script on one slot.
 
 ghost use Rattle.std.specs.Prelude.{◌≡◌, ◌≢◌, ◌<◌, ◌++◌, ◌||◌, not, [], ◌∷◌, List, length, true, IfNone, IfSome, IsTrue, OnOk};
-ghost use Rattle.bz_passes.specs.Passes.{Slot, executed, entries, meets, with_mark, marked};
+ghost use Rattle.bz_passes.specs.Passes.{Slot, executed, marked};
 ghost use Rattle.bz_passes.specs.Asked.{IsFirstFrom, IsKeyOf, passes_for, some_may_mark};
-ghost use Rattle.bz_passes.specs.Exchange.{Fits, IsLeftBy, IsPassedBy, slot_after_commands, slot_after_pass, slot_after, logs_alone, logs_and, pass_alone, pass_and, kept_alone, kept_and, some_of_commands_alone, some_alone};
+ghost use Rattle.bz_passes.specs.Exchange.{Fits, IsLeftBy, IsPassedBy, slot_after_commands, slot_after_pass, slot_after, logs_alone, logs_and, pass_alone, pass_and, kept_alone, kept_and, some_of_commands_alone, some_alone, entries, meets, with_mark};
 ghost use Rattle.bz_passes.specs.OnePass.{IsOnlyFor};
 
 use crate::index::Key;

@@ -21,7 +21,7 @@ use Rattle.bz_engine.specs.declared.report.Report.{Report}
 use Rattle.bz_label.specs.Labels.{Package}
 use Rattle.bz_program.specs.declared.file_run.Ended.{Ended}
 use Rattle.bz_program.specs.declared.file_run.Ended.TheVariants.{Told, Failed as EndedByFault, NotYet}
-use Rattle.bz_program.specs.Runs.{Asked, IsRun, IsKeptText, is_kept, is_whole, IsFaultOver}
+use Rattle.bz_program.specs.Runs.{Job, IsRun, IsKeptText, is_kept, is_whole, IsFaultOver}
 use Rattle.bz_program.specs.FileRuns.{GaveText, GaveAnswer}
 use Rattle.bz_program.specs.Files.{IsFileOf, MayBe, MayHold, MayHoldNothing, IsEdited, Holds, AreLeft, Leaves, IsPlaced, file_fault, IsFileFault, IsOfFolder}
 use Rattle.bz_program.specs.Handled.{AreFilesOf, IsFirst, IsTried, IsOpened, LeavesFiles}
@@ -29,7 +29,7 @@ use Rattle.bz_engine.specs.Outcome.{status_of}
 use Rattle.bz_script.specs.Groups.{Step}
 use Rattle.bz_script.specs.Names.{IsBuildPath}
 use Rattle.bz_script.specs.Packages.{by_package}
-use Rattle.bz_program.specs.Program.{MayHold as MayHoldAny, Task, asked_for}
+use Rattle.bz_program.specs.Program.{MayHold as MayHoldAny, Task, job_of}
 use Rattle.bz_program.specs.declared.file_run.FileRun.{FileRun}
 
 abbrev or_else : {A : Type 0} → Option A → A → A
@@ -106,8 +106,8 @@ not_ended fault same = cc
 not_told : (report : Report) (fault : RunFault) → Told report ≡ EndedByFault fault → ⊥
 not_told report fault same = cc
 
-not_asked : (asked : Asked) → (let none : Option Asked = None in none ≡ Some asked) → ⊥
-not_asked asked same = cc
+no_job : (job : Job) → (let none : Option Job = None in none ≡ Some job) → ⊥
+no_job job same = cc
 
 pub true_fault : {S : Type 0} (gave : S → List (List ℕ) → S → Type 0) (failures : S → ℕ) (source : S) (fault : RunFault) (source_after : S) → IsFaultOver gave failures source fault source_after
     → IsFileFault gave failures source (file_fault fault)
@@ -132,31 +132,31 @@ of_folder gave failures source (Run InputTooLong) h = absurd h
 of_folder gave failures source (Run (StatementTooLong line)) h = absurd h
 of_folder gave failures source (Run Stopped) h = absurd h
 
-module _ {S : Type 0} (gave : S → List (List ℕ) → S → Type 0) (failures : S → ℕ) (before after : FileRun S) (asked : Asked) (is : before.asked ≡ Some asked) where
-  -- what was asked is what the run did
-  same_asked : (text : List ℕ) (kept : Bool) (g : GaveText gave before.asked before.source text kept after.source after.ended) → g.was ≡ asked
-  same_asked text kept g = ap (λ o. or_else o g.was) (sym g.asked_is ∙ is)
+module _ {S : Type 0} (gave : S → List (List ℕ) → S → Type 0) (failures : S → ℕ) (before after : FileRun S) (job : Job) (is : before.job ≡ Some job) where
+  -- the job is what the run did
+  same_job : (text : List ℕ) (kept : Bool) (g : GaveText gave before.job before.source text kept after.source after.ended) → g.was ≡ job
+  same_job text kept g = ap (λ o. or_else o g.was) (sym g.job_is ∙ is)
 
-  kept_text : (text : List ℕ) → GaveText gave before.asked before.source text true after.source after.ended → IsKeptText gave before.source asked text
+  kept_text : (text : List ℕ) → GaveText gave before.job before.source text true after.source after.ended → IsKeptText gave before.source job text
   kept_text text g = record {
     read = g.read;
     source_after = after.source;
     gave_is = g.gave_is;
     report = g.report;
-    outcome = subst (λ a. IsRun a g.read text g.report) (same_asked text true g) g.outcome;
-    kept = subst (λ a. is_kept a.keep_going g.report ≡ true) (same_asked text true g) (sym g.kept_is);
+    outcome = subst (λ a. IsRun a g.read text g.report) (same_job text true g) g.outcome;
+    kept = subst (λ a. is_kept a.keep_going g.report ≡ true) (same_job text true g) (sym g.kept_is);
   }
 
   pub safe_edit : (source : S) → before.source ≡ source → {D : Type 0} (did : D → List Event → D → Type 0) (a b : D) (file : List ℕ) (mode : ℕ) (result : Result Bool Trouble)
-      → Replacement did (λ old text answer new. GaveAnswer gave failures old.asked old.source text answer new.source new.ended) a b before after file mode result
-      → SafeRun did (MayBe gave source asked file) a b
+      → Replacement did (λ old text answer new. GaveAnswer gave failures old.job old.source text answer new.source new.ended) a b before after file mode result
+      → SafeRun did (MayBe gave source job file) a b
   safe_edit source from did a b file mode result r =
-      run_one did (MayBe gave source asked file) (λ old text answer new. GaveAnswer gave failures old.asked old.source text answer new.source new.ended) a b before after file mode result r
-      (λ text g. record { is_it = refl; kept = subst (λ s. IsKeptText gave s asked text) from (kept_text text g) })
+      run_one did (MayBe gave source job file) (λ old text answer new. GaveAnswer gave failures old.job old.source text answer new.source new.ended) a b before after file mode result r
+      (λ text g. record { is_it = refl; kept = subst (λ s. IsKeptText gave s job text) from (kept_text text g) })
 
   -- what the run told is a run's report, and what it answered is whether its text is kept
-  pub edited : (text : List ℕ) (kept : Bool) (report : Report) → GaveText gave before.asked before.source text kept after.source after.ended
-      → after.ended ≡ Told report → IsEdited gave before.source asked report kept
+  pub edited : (text : List ℕ) (kept : Bool) (report : Report) → GaveText gave before.job before.source text kept after.source after.ended
+      → after.ended ≡ Told report → IsEdited gave before.source job report kept
   edited text kept report g ended =
       let same : g.report ≡ report = ap (λ o. report_in o g.report) (sym g.ended_is ∙ ended) in
       record {
@@ -164,54 +164,54 @@ module _ {S : Type 0} (gave : S → List (List ℕ) → S → Type 0) (failures 
         source_after = after.source;
         gave_is = g.gave_is;
         text = text;
-        outcome = subst (λ r. IsRun asked g.read text r) same (subst (λ a. IsRun a g.read text g.report) (same_asked text kept g) g.outcome);
-        replaced_is = subst (λ r. kept ≡ is_kept asked.keep_going r) same (subst (λ a. kept ≡ is_kept a.keep_going g.report) (same_asked text kept g) g.kept_is);
+        outcome = subst (λ r. IsRun job g.read text r) same (subst (λ a. IsRun a g.read text g.report) (same_job text kept g) g.outcome);
+        replaced_is = subst (λ r. kept ≡ is_kept job.keep_going r) same (subst (λ a. kept ≡ is_kept a.keep_going g.report) (same_job text kept g) g.kept_is);
       }
 
   -- the same, as the file was replaced or not
   pub edited_as : (source : S) → before.source ≡ source → (result : Result Bool Trouble) (kept : Bool) (report : Report) → result ≡ Ok kept
-      → (result ≡ Ok true → (text : List ℕ) × GaveAnswer gave failures before.asked before.source text (Ok true) after.source after.ended)
-      → (result ≡ Ok false → (text : List ℕ) × GaveAnswer gave failures before.asked before.source text (Ok false) after.source after.ended)
-      → after.ended ≡ Told report → IsEdited gave source asked report kept
-  edited_as source from result true report e wanted unwanted ended = subst (λ s. IsEdited gave s asked report true) from (edited (wanted e).0 true report (wanted e).1 ended)
-  edited_as source from result false report e wanted unwanted ended = subst (λ s. IsEdited gave s asked report false) from (edited (unwanted e).0 false report (unwanted e).1 ended)
+      → (result ≡ Ok true → (text : List ℕ) × GaveAnswer gave failures before.job before.source text (Ok true) after.source after.ended)
+      → (result ≡ Ok false → (text : List ℕ) × GaveAnswer gave failures before.job before.source text (Ok false) after.source after.ended)
+      → after.ended ≡ Told report → IsEdited gave source job report kept
+  edited_as source from result true report e wanted unwanted ended = subst (λ s. IsEdited gave s job report true) from (edited (wanted e).0 true report (wanted e).1 ended)
+  edited_as source from result false report e wanted unwanted ended = subst (λ s. IsEdited gave s job report false) from (edited (unwanted e).0 false report (unwanted e).1 ended)
 
   -- a run whose text is not kept touches no file
   pub safe_idle : {D : Type 0} (did : D → List Event → D → Type 0) (a b : D) (file : List ℕ) (mode : ℕ) (result : Result Bool Trouble)
-      → Replacement did (λ old text answer new. GaveAnswer gave failures old.asked old.source text answer new.source new.ended) a b before after file mode result
-      → (report : Report) → after.ended ≡ Told report → is_kept asked.keep_going report ≡ false → SafeRun did MayHoldNothing a b
+      → Replacement did (λ old text answer new. GaveAnswer gave failures old.job old.source text answer new.source new.ended) a b before after file mode result
+      → (report : Report) → after.ended ≡ Told report → is_kept job.keep_going report ≡ false → SafeRun did MayHoldNothing a b
   safe_idle did a b file mode result r report ended unkept =
-      run_one did MayHoldNothing (λ old text answer new. GaveAnswer gave failures old.asked old.source text answer new.source new.ended) a b before after file mode result r
+      run_one did MayHoldNothing (λ old text answer new. GaveAnswer gave failures old.job old.source text answer new.source new.ended) a b before after file mode result r
       (λ text g. false≢true (sym unkept ∙ sym (edited text true report g ended).replaced_is))
 
   -- what the file holds in the end
   pub placed : {D F : Type 0} (did : D → List Event → D → Type 0) (a b : D) (file : List ℕ) (opened : Opened S) → before.source ≡ opened.source → file ≡ string_bytes opened.path
       → (replaced : Result Bool Trouble)
-      → Replacement did (λ old text answer new. GaveAnswer gave failures old.asked old.source text answer new.source new.ended) a b before after file opened.mode replaced
-      → (replaced ≡ Ok true → (text : List ℕ) × GaveAnswer gave failures before.asked before.source text (Ok true) after.source after.ended)
+      → Replacement did (λ old text answer new. GaveAnswer gave failures old.job old.source text answer new.source new.ended) a b before after file opened.mode replaced
+      → (replaced ≡ Ok true → (text : List ℕ) × GaveAnswer gave failures before.job before.source text (Ok true) after.source after.ended)
       → (result : Result (Report × Bool) F) → IfOk result (λ told. (after.ended ≡ Told told.0) × (replaced ≡ Ok told.1)) → OnErr result (replaced ≢ Ok true)
-      → IsPlaced gave did asked opened result a b
+      → IsPlaced gave did job opened result a b
   unfolding edited
   placed did a b file opened from at replaced r given (Ok (report, true)) told failed =
-      let text = leaves_new did (λ old text answer new. GaveAnswer gave failures old.asked old.source text answer new.source new.ended) a b before after file opened.mode replaced r told.1 (given told.1) in
-      subst (λ path. (ran : IsEdited gave opened.source asked report true) × Leaves did ((path, Some (ran.text, opened.mode)) ∷ []) a b) at
-      (subst (λ source. (ran : IsEdited gave source asked report true) × Leaves did ((file, Some (ran.text, opened.mode)) ∷ []) a b) from
+      let text = leaves_new did (λ old text answer new. GaveAnswer gave failures old.job old.source text answer new.source new.ended) a b before after file opened.mode replaced r told.1 (given told.1) in
+      subst (λ path. (ran : IsEdited gave opened.source job report true) × Leaves did ((path, Some (ran.text, opened.mode)) ∷ []) a b) at
+      (subst (λ source. (ran : IsEdited gave source job report true) × Leaves did ((file, Some (ran.text, opened.mode)) ∷ []) a b) from
       (edited text.0 true report text.1 told.0, text.2))
   placed did a b file opened from at replaced r given (Ok (report, false)) told failed =
       subst (λ path. Leaves did ((path, None) ∷ []) a b) at
-      (leaves_old did (λ old text answer new. GaveAnswer gave failures old.asked old.source text answer new.source new.ended) a b before after file opened.mode replaced r
+      (leaves_old did (λ old text answer new. GaveAnswer gave failures old.job old.source text answer new.source new.ended) a b before after file opened.mode replaced r
       (λ yes. let both : Ok false ≡ Ok true = sym told.1 ∙ yes in cc))
   placed did a b file opened from at replaced r given (Err fault) told failed =
       subst (λ path. Leaves did ((path, None) ∷ []) a b) at
-      (leaves_old did (λ old text answer new. GaveAnswer gave failures old.asked old.source text answer new.source new.ended) a b before after file opened.mode replaced r failed)
+      (leaves_old did (λ old text answer new. GaveAnswer gave failures old.job old.source text answer new.source new.ended) a b before after file opened.mode replaced r failed)
 
   -- why the run failed is true
   pub faulted : (source : S) → before.source ≡ source → before.ended ≡ NotYet → (fault : RunFault) → after.ended ≡ EndedByFault fault
-      → (after ≡ before) ⊎ ((text : List ℕ) × (answer : Result Bool FailedCall) × GaveAnswer gave failures before.asked before.source text answer after.source after.ended)
+      → (after ≡ before) ⊎ ((text : List ℕ) × (answer : Result Bool FailedCall) × GaveAnswer gave failures before.job before.source text answer after.source after.ended)
       → (told : FileFault) → told ≡ file_fault fault → IsFileFault gave failures source told
   faulted source from new fault ended (inl same) told told_is = absurd (not_ended fault (sym new ∙ ap (λ (r : FileRun S). r.ended) (sym same) ∙ ended))
   faulted source from new fault ended (inr (text, Ok kept, g)) told told_is = absurd (not_told g.report fault (sym g.ended_is ∙ ended))
-  faulted source from new fault ended (inr (text, Err failed, inl none)) told told_is = absurd (not_asked asked (sym none ∙ is))
+  faulted source from new fault ended (inr (text, Err failed, inl none)) told told_is = absurd (no_job job (sym none ∙ is))
   faulted source from new fault ended (inr (text, Err failed, inr why)) told told_is =
       subst (IsFileFault gave failures source) (sym told_is)
       (true_fault gave failures source fault after.source
@@ -254,10 +254,10 @@ leaves_more did joins ps qs a b c p q = record {
       (λ now s after path other. holds_more ps qs path (start path) (m path) (now path) (before path (λ e. other (among_left _ ps qs e))) (after path (λ e. other (among_right _ ps qs e)))) q.events m (q.left m));
 }
 
-pub left_alone : {D F : Type 0} (did : D → List Event → D → Type 0) (leads : List ℕ → List ℕ → F → Type 0) (gave : F → List (List ℕ) → F → Type 0) (stdout : Bool) (asked : Asked)
-    → ((s : D) → did s [] s) → (s : D) (status : ℕ) → LeavesFiles did leads gave stdout asked s s status
-left_alone did leads gave stdout asked nothing s status = record {
-  safe = untouched did (MayHold leads gave asked) nothing s;
+pub left_alone : {D F : Type 0} (did : D → List Event → D → Type 0) (leads : List ℕ → List ℕ → F → Type 0) (gave : F → List (List ℕ) → F → Type 0) (stdout : Bool) (job : Job)
+    → ((s : D) → did s [] s) → (s : D) (status : ℕ) → LeavesFiles did leads gave stdout job s s status
+left_alone did leads gave stdout job nothing s status = record {
+  safe = untouched did (MayHold leads gave job) nothing s;
   idle = λ three. untouched did MayHoldNothing nothing s;
   shown = λ is. nothing s;
 }
@@ -274,11 +274,11 @@ pub safe_weaker : {D : Type 0} (did : D → List Event → D → Type 0) (May Mo
 safe_weaker did May More f a b r = record { wants = r.wants; events = r.events; made = r.made; may = each_weaker May More f r.wants r.may; whole = r.whole }
 
 -- a file's run is one of its package
-pub of_file : {D F : Type 0} (did : D → List Event → D → Type 0) (leads : List ℕ → List ℕ → F → Type 0) (gave : F → List (List ℕ) → F → Type 0) (asked : Asked) (edited : List ℕ) (source : F)
-    → IsFileOf leads asked.home edited source → (a b : D) → SafeRun did (MayBe gave source asked edited) a b → SafeRun did (MayHold leads gave asked) a b
-of_file did leads gave asked edited source is_its a b r =
-    safe_weaker did (MayBe gave source asked edited) (MayHold leads gave asked)
-    (λ file content may. record { source = source; is_its = subst (λ f. IsFileOf leads asked.home f source) (sym may.is_it) is_its; kept = may.kept }) a b r
+pub of_file : {D F : Type 0} (did : D → List Event → D → Type 0) (leads : List ℕ → List ℕ → F → Type 0) (gave : F → List (List ℕ) → F → Type 0) (job : Job) (edited : List ℕ) (source : F)
+    → IsFileOf leads job.home edited source → (a b : D) → SafeRun did (MayBe gave source job edited) a b → SafeRun did (MayHold leads gave job) a b
+of_file did leads gave job edited source is_its a b r =
+    safe_weaker did (MayBe gave source job edited) (MayHold leads gave job)
+    (λ file content may. record { source = source; is_its = subst (λ f. IsFileOf leads job.home f source) (sym may.is_it) is_its; kept = may.kept }) a b r
 
 -- a path that is tried is one of the package's BUILD file
 build_path : {D : Type 0} (absent : D → List ℕ → Type 0) (folder : D) (home : Package) (path : List ℕ) → IsTried absent folder home path → IsBuildPath home path
@@ -295,10 +295,10 @@ file_of leads absent folder home path opened o = record { path = path; is_its = 
 
 -- a package's run is a run of the program
 pub of_package : {D F : Type 0} (did : D → List Event → D → Type 0) (leads : List ℕ → List ℕ → F → Type 0) (gave : F → List (List ℕ) → F → Type 0) (keep_going : Bool) (script : List Step) (task : Task)
-    → Contains (by_package script) task → (a b : D) → SafeRun did (MayHold leads gave (asked_for keep_going task)) a b → SafeRun did (MayHoldAny leads gave keep_going script) a b
-of_package did leads gave keep_going script task is_asked a b r =
-    safe_weaker did (MayHold leads gave (asked_for keep_going task)) (MayHoldAny leads gave keep_going script)
-    (λ file content may. record { task = task; is_asked = is_asked; may = may }) a b r
+    → Contains (by_package script) task → (a b : D) → SafeRun did (MayHold leads gave (job_of keep_going task)) a b → SafeRun did (MayHoldAny leads gave keep_going script) a b
+of_package did leads gave keep_going script task is_there a b r =
+    safe_weaker did (MayHold leads gave (job_of keep_going task)) (MayHoldAny leads gave keep_going script)
+    (λ file content may. record { task = task; is_there = is_there; may = may }) a b r
 
 -- a report of a run in which nothing changed is not kept
 abbrev status_by : Bool → Bool → ℕ
@@ -317,11 +317,11 @@ pub three_unkept : (keep_going : Bool) (report : Report) → status_of report �
 three_unkept keep_going report is = unchanged_unkept (is_whole report.end) report.changed (keep_going || not report.failed) (three_unchanged report.failed report.changed is)
 
 -- what was put in a file's place
-pub put_as : {D F : Type 0} (E : Type 0) (did : D → List Event → D → Type 0) (gave : F → List (List ℕ) → F → Type 0) (asked : Asked) (a b : D) (opened : Opened F) (report : Report) (replaced : Bool)
-    → (let result : Result (Report × Bool) E = Ok (report, replaced) in IsPlaced gave did asked opened result a b) → IsEdited gave opened.source asked report replaced
-    → (edited : IsEdited gave opened.source asked report replaced) × Leaves did ((string_bytes opened.path, if replaced then Some (edited.text, opened.mode) else None) ∷ []) a b
-put_as E did gave asked a b opened report true p e = p
-put_as E did gave asked a b opened report false p e = (e, p)
+pub put_as : {D F : Type 0} (E : Type 0) (did : D → List Event → D → Type 0) (gave : F → List (List ℕ) → F → Type 0) (job : Job) (a b : D) (opened : Opened F) (report : Report) (replaced : Bool)
+    → (let result : Result (Report × Bool) E = Ok (report, replaced) in IsPlaced gave did job opened result a b) → IsEdited gave opened.source job report replaced
+    → (edited : IsEdited gave opened.source job report replaced) × Leaves did ((string_bytes opened.path, if replaced then Some (edited.text, opened.mode) else None) ∷ []) a b
+put_as E did gave job a b opened report true p e = p
+put_as E did gave job a b opened report false p e = (e, p)
 
 -- one of two values, as a function of the test
 abbrev pub if_reads : {P : Type 0} → P → P → Bool → P

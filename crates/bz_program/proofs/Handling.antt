@@ -17,9 +17,9 @@ use Rattle.bz_program.specs.Handled.{Account, IsShownAs, IsAccountAt, IsHandled,
 use Rattle.bz_program.specs.declared.package.Devices.{Devices}
 use Rattle.bz_program.proofs.Edited.{leaves_nothing, leaves_more}
 use Rattle.bz_program.proofs.Shown.{shows_nothing, shows_more}
-use Rattle.bz_program.specs.Runs.{Asked}
+use Rattle.bz_program.specs.Runs.{Job}
 use Rattle.bz_script.specs.Packages.{by_package}
-use Rattle.bz_program.specs.Program.{Task, asked_for}
+use Rattle.bz_program.specs.Program.{Task, job_of}
 use Rattle.bz_script.specs.Statuses.{some_is, whole_status}
 
 abbrev status_from : Bool → Bool → ℕ
@@ -70,10 +70,10 @@ flat_map_next f xs x = ap (λ ys. flat_map f xs ++ ys) (sym (append-nil (f x))) 
 abbrev IsOwn : ℕ → Type 0
 IsOwn status = (status ≡ 2) ⊎ ((report : Report) × (status ≡ status_of report))
 
-own_shown : {S : Type 0} (gave : S → List (List ℕ) → S → Type 0) (failures : S → ℕ) (asked : Asked) (name : List ℕ) (source source_after : S) (account : Account)
-    → IsShownAs gave failures asked name source source_after account → IsOwn account.status
-own_shown gave failures asked name source source_after account (inl ran) = inr (ran.report, ap (λ (a : Account). a.status) ran.account_is)
-own_shown gave failures asked name source source_after account (inr cut) = inl (ap (λ (a : Account). a.status) cut.account_is)
+own_shown : {S : Type 0} (gave : S → List (List ℕ) → S → Type 0) (failures : S → ℕ) (job : Job) (name : List ℕ) (source source_after : S) (account : Account)
+    → IsShownAs gave failures job name source source_after account → IsOwn account.status
+own_shown gave failures job name source source_after account (inl ran) = inr (ran.report, ap (λ (a : Account). a.status) ran.account_is)
+own_shown gave failures job name source source_after account (inr cut) = inl (ap (λ (a : Account). a.status) cut.account_is)
 
 -- the laws of what both outputs and the folder did
 pub record Laws {D O E : Type 0} (did : D → List Event → D → Type 0) (out_took : O → List ℕ → O → Type 0) (err_took : E → List ℕ → E → Type 0) : Type 0 where
@@ -122,7 +122,7 @@ module _ {D F S O E : Type 0} (did : D → List Event → D → Type 0) (leads :
       ∙ ap whole_status (sym (map-append (λ d. d.1) dones (done ∷ [])))
 
   module _ (before : List Task) (devices devices_then : Devices D S O E) (whole next : ℕ) (task : Task) (done : Done) (first : To before devices whole)
-      (this : IsHandled did leads absent gave failures input_gave input_failures out_took err_took flags (asked_for flags.k task) devices devices_then done.0 done.1)
+      (this : IsHandled did leads absent gave failures input_gave input_failures out_took err_took flags (job_of flags.k task) devices devices_then done.0 done.1)
       (next_is : next ≡ whole_status (whole ∷ done.1 ∷ [])) where
     left_next : Leaves did (flat_map (λ d. d.0.puts) (first.dones ++ done ∷ [])) start.draft.folder devices_then.draft.folder
     left_next =
@@ -160,7 +160,7 @@ module _ {D F S O E : Type 0} (did : D → List Event → D → Type 0) (leads :
 
   -- the same after a turn of a loop over entries, each of them seen as a task
   pub handled_more : {T : Type 0} (view : T → Task) (yielded : List T) (entry : T) (devices devices_then : Devices D S O E) (whole next : ℕ) (done : Done) → To (map view yielded) devices whole
-      → IsHandled did leads absent gave failures input_gave input_failures out_took err_took flags (asked_for flags.k (view entry)) devices devices_then done.0 done.1
+      → IsHandled did leads absent gave failures input_gave input_failures out_took err_took flags (job_of flags.k (view entry)) devices devices_then done.0 done.1
       → is_last flags.k done.1 ≡ false → next ≡ whole_status (whole ∷ done.1 ∷ []) → To (map view (yielded ++ entry ∷ [])) devices_then next
   handled_more view yielded entry devices devices_then whole next done first this not_last next_is =
       subst (λ tasks. To tasks devices_then next) (sym (map-append view yielded (entry ∷ [])))
@@ -177,14 +177,14 @@ module _ {D F S O E : Type 0} (did : D → List Event → D → Type 0) (leads :
     shows = first.shows;
   }
 
-  own_at : (home : Package) (asked : Asked) (folder : D) (input input_after : S) (account : Account)
-      → IsAccountAt leads absent gave failures input_gave input_failures flags home asked folder input input_after account → IsOwn account.status
-  own_at None asked folder input input_after account is = own_shown input_gave input_failures asked _ input input_after account is
-  own_at (Some home) asked folder input input_after account (same, inl none) = inl (ap (λ (a : Account). a.status) none)
-  own_at (Some home) asked folder input input_after account (same, inr (path, inl unopened)) = inl (ap (λ (a : Account). a.status) unopened.account_is)
-  own_at (Some home) asked folder input input_after account (same, inr (path, inr (opened, is, inl shown))) = own_shown gave failures asked path opened.source shown.1 account shown.2
-  own_at (Some home) asked folder input input_after account (same, inr (path, inr (opened, is, inr (placed, inl edited)))) = inr (edited.report, ap (λ (a : Account). a.status) edited.account_is)
-  own_at (Some home) asked folder input input_after account (same, inr (path, inr (opened, is, inr (placed, inr kept)))) = inl (ap (λ (a : Account). a.status) kept.account_is)
+  own_at : (home : Package) (job : Job) (folder : D) (input input_after : S) (account : Account)
+      → IsAccountAt leads absent gave failures input_gave input_failures flags home job folder input input_after account → IsOwn account.status
+  own_at None job folder input input_after account is = own_shown input_gave input_failures job _ input input_after account is
+  own_at (Some home) job folder input input_after account (same, inl none) = inl (ap (λ (a : Account). a.status) none)
+  own_at (Some home) job folder input input_after account (same, inr (path, inl unopened)) = inl (ap (λ (a : Account). a.status) unopened.account_is)
+  own_at (Some home) job folder input input_after account (same, inr (path, inr (opened, is, inl shown))) = own_shown gave failures job path opened.source shown.1 account shown.2
+  own_at (Some home) job folder input input_after account (same, inr (path, inr (opened, is, inr (placed, inl edited)))) = inr (edited.report, ap (λ (a : Account). a.status) edited.account_is)
+  own_at (Some home) job folder input input_after account (same, inr (path, inr (opened, is, inr (placed, inr kept)))) = inl (ap (λ (a : Account). a.status) kept.account_is)
 
   own_three : (own : ℕ) → IsOwn own → (own == 2) ≡ false → (own == 0) ≡ false → own ≡ 3
   own_three own (inl failed) two none = absurd (false≢true (sym two ∙ ap (λ n. n == 2) failed))
@@ -194,17 +194,17 @@ module _ {D F S O E : Type 0} (did : D → List Event → D → Type 0) (leads :
   output_three true own status is from two none = absurd (false≢true (sym two ∙ ap (λ n. n == 2) is))
   output_three false own status is from two none = own_three status (subst IsOwn (sym is) from) two none
 
-  package_three : (asked : Asked) (devices devices_then : Devices D S O E) (account : Account) (status : ℕ)
-      → IsHandled did leads absent gave failures input_gave input_failures out_took err_took flags asked devices devices_then account status → (status == 2) ≡ false → (status == 0) ≡ false → status ≡ 3
-  package_three asked devices devices_then account status this two none =
-      output_three (has_failed devices_then.console) account.status status this.status_is (own_at asked.home asked devices.draft.folder devices.input devices_then.input account this.is_its) two none
+  package_three : (job : Job) (devices devices_then : Devices D S O E) (account : Account) (status : ℕ)
+      → IsHandled did leads absent gave failures input_gave input_failures out_took err_took flags job devices devices_then account status → (status == 2) ≡ false → (status == 0) ≡ false → status ≡ 3
+  package_three job devices devices_then account status this two none =
+      output_three (has_failed devices_then.console) account.status status this.status_is (own_at job.home job devices.draft.folder devices.input devices_then.input account this.is_its) two none
 
   -- where the status of packages and of one more is 3, that of both is 3
-  pub three_both : (before : List Task) (asked : Asked) (devices devices_then : Devices D S O E) (whole next : ℕ) (account : Account) (status : ℕ) → To before devices whole
-      → IsHandled did leads absent gave failures input_gave input_failures out_took err_took flags asked devices devices_then account status
+  pub three_both : (before : List Task) (job : Job) (devices devices_then : Devices D S O E) (whole next : ℕ) (account : Account) (status : ℕ) → To before devices whole
+      → IsHandled did leads absent gave failures input_gave input_failures out_took err_took flags job devices devices_then account status
       → next ≡ whole_status (whole ∷ status ∷ []) → next ≡ 3 → (whole ≡ 3) × (status ≡ 3)
-  three_both before asked devices devices_then whole next account status first this next_is three =
+  three_both before job devices devices_then whole next account status first this next_is three =
       let parts = three_of (whole == 2) (status == 2) (whole == 0) (status == 0) (sym next_is ∙ three) in (
         three_from (some_is 2 (map (λ d. d.1) first.dones)) (some_is 0 (map (λ d. d.1) first.dones)) whole first.whole_is parts.0 parts.2,
-        package_three asked devices devices_then account status this parts.1 parts.3,
+        package_three job devices devices_then account status this parts.1 parts.3,
       )

@@ -11,7 +11,7 @@ use Rattle.bz_program.specs.declared.edit_file.FileFault.{FileFault}
 use Rattle.bz_program.specs.declared.edit_file.FileFault.TheVariants.{Run, CannotWrite}
 use Rattle.bz_label.specs.Labels.{Package}
 use Rattle.bz_script.specs.Names.{IsBuildPath}
-use Rattle.bz_program.specs.Runs.{Asked, IsRun, is_kept, IsKeptText, IsFaultOver}
+use Rattle.bz_program.specs.Runs.{Job, IsRun, is_kept, IsKeptText, IsFaultOver}
 
 -- what is opened at a path of a package's BUILD file may be this file, and it is read from this source
 pub record IsFileOf {F : Type 0} (leads : List ℕ → List ℕ → F → Type 0) (home : Package) (file : List ℕ) (source : F) : Type 0 where
@@ -20,29 +20,29 @@ pub record IsFileOf {F : Type 0} (leads : List ℕ → List ℕ → F → Type 0
   pub leads_to : leads path file source
 
 -- the package's file may hold the whole text of a run that is kept, over what was read of that very file
-pub record MayHold {F : Type 0} (leads : List ℕ → List ℕ → F → Type 0) (gave : F → List (List ℕ) → F → Type 0) (asked : Asked)
+pub record MayHold {F : Type 0} (leads : List ℕ → List ℕ → F → Type 0) (gave : F → List (List ℕ) → F → Type 0) (job : Job)
     (file : List ℕ) (content : Content) : Type 0 where
   pub source : F
-  pub is_its : IsFileOf leads asked.home file source
-  pub kept : IsKeptText gave source asked content.0
+  pub is_its : IsFileOf leads job.home file source
+  pub kept : IsKeptText gave source job content.0
 
 -- one file alone may hold the whole text of a run that is kept, over what was read of this source
-pub record MayBe {S : Type 0} (gave : S → List (List ℕ) → S → Type 0) (source : S) (asked : Asked) (edited file : List ℕ) (content : Content) : Type 0 where
+pub record MayBe {S : Type 0} (gave : S → List (List ℕ) → S → Type 0) (source : S) (job : Job) (edited file : List ℕ) (content : Content) : Type 0 where
   pub is_it : file ≡ edited
-  pub kept : IsKeptText gave source asked content.0
+  pub kept : IsKeptText gave source job content.0
 
 -- no file may hold anything new
 abbrev pub MayHoldNothing : List ℕ → Content → Type 0
 MayHoldNothing file content = ⊥
 
 -- the report is that of a run over what was read of this source, and the file was replaced exactly where the run's text is kept
-pub record IsEdited {S : Type 0} (gave : S → List (List ℕ) → S → Type 0) (source : S) (asked : Asked) (report : Report) (replaced : Bool) : Type 0 where
+pub record IsEdited {S : Type 0} (gave : S → List (List ℕ) → S → Type 0) (source : S) (job : Job) (report : Report) (replaced : Bool) : Type 0 where
   pub read : List (List ℕ)
   pub source_after : S
   pub gave_is : gave source read source_after
   pub text : List ℕ
-  pub outcome : IsRun asked read text report
-  pub replaced_is : replaced ≡ is_kept asked.keep_going report
+  pub outcome : IsRun job read text report
+  pub replaced_is : replaced ≡ is_kept job.keep_going report
 
 -- why a file was not edited, where its run has no report for this reason: what it could not write is the file
 abbrev pub file_fault : RunFault → FileFault
@@ -86,8 +86,8 @@ pub record Leaves {D : Type 0} (did : D → List Event → D → Type 0) (puts :
 
 -- The file that was opened has, in the end, the text of the run that told this report, and the permission bits that it had, where this
 -- is told to have replaced it. Else it has what it had.
-abbrev pub IsPlaced : {S D F : Type 0} → (S → List (List ℕ) → S → Type 0) → (D → List Event → D → Type 0) → Asked → Opened S → Result (Report × Bool) F → D → D → Type 0
-IsPlaced gave did asked opened (Ok (report, true)) folder folder_after =
-    (edited : IsEdited gave opened.source asked report true) × Leaves did ((string_bytes opened.path, Some (edited.text, opened.mode)) ∷ []) folder folder_after
-IsPlaced gave did asked opened (Ok (report, false)) folder folder_after = Leaves did ((string_bytes opened.path, None) ∷ []) folder folder_after
-IsPlaced gave did asked opened (Err fault) folder folder_after = Leaves did ((string_bytes opened.path, None) ∷ []) folder folder_after
+abbrev pub IsPlaced : {S D F : Type 0} → (S → List (List ℕ) → S → Type 0) → (D → List Event → D → Type 0) → Job → Opened S → Result (Report × Bool) F → D → D → Type 0
+IsPlaced gave did job opened (Ok (report, true)) folder folder_after =
+    (edited : IsEdited gave opened.source job report true) × Leaves did ((string_bytes opened.path, Some (edited.text, opened.mode)) ∷ []) folder folder_after
+IsPlaced gave did job opened (Ok (report, false)) folder folder_after = Leaves did ((string_bytes opened.path, None) ∷ []) folder folder_after
+IsPlaced gave did job opened (Err fault) folder folder_after = Leaves did ((string_bytes opened.path, None) ∷ []) folder folder_after

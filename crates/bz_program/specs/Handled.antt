@@ -18,8 +18,8 @@ use Rattle.bz_script.specs.Statuses.{whole_status}
 use Rattle.bz_script.specs.declared.flags.Flags.{Flags}
 use Rattle.bz_program.specs.Console.{Shows, has_failed}
 use Rattle.bz_program.specs.Files.{Leaves, MayHold, MayHoldNothing, IsEdited, IsFileFault}
-use Rattle.bz_program.specs.Program.{Task, asked_for, is_shown}
-use Rattle.bz_program.specs.Runs.{Asked, IsRun, IsFront, IsFaultOver}
+use Rattle.bz_program.specs.Program.{Task, job_of, is_shown}
+use Rattle.bz_program.specs.Runs.{Job, IsRun, IsFront, IsFaultOver}
 use Rattle.bz_program.specs.Texts.{lines_text, message_of, messages_text, fixed_told, unopened_text, IsFaultText, IsFileFaultTold}
 use Rattle.bz_program.specs.declared.console.Console.{Console}
 use Rattle.bz_program.specs.declared.edit_file.FileFault.{FileFault}
@@ -59,36 +59,36 @@ abbrev pub kept_account : {F : Type 0} → Opened F → List ℕ → Account
 kept_account opened told = record { shown = []; told = told; puts = (string_bytes opened.path, None) ∷ []; status = 2 }
 
 -- the account of a run over this source whose text goes to standard output, and what is told after this name
-pub record IsStreamedAs {S : Type 0} (gave : S → List (List ℕ) → S → Type 0) (asked : Asked) (name : List ℕ) (source source_after : S) (account : Account) : Type 0 where
+pub record IsStreamedAs {S : Type 0} (gave : S → List (List ℕ) → S → Type 0) (job : Job) (name : List ℕ) (source source_after : S) (account : Account) : Type 0 where
   pub read : List (List ℕ)
   pub gave_is : gave source read source_after
   pub text : List ℕ
   pub report : Report
-  pub outcome : IsRun asked read text report
+  pub outcome : IsRun job read text report
   pub account_is : account ≡ streamed_account name text report
 
 -- the account of one that has no report, for a reason that is true
-pub record IsCutAs {S : Type 0} (gave : S → List (List ℕ) → S → Type 0) (failures : S → ℕ) (asked : Asked) (name : List ℕ) (source source_after : S) (account : Account)
+pub record IsCutAs {S : Type 0} (gave : S → List (List ℕ) → S → Type 0) (failures : S → ℕ) (job : Job) (name : List ℕ) (source source_after : S) (account : Account)
     : Type 0 where
   pub fault : RunFault
   pub cause : IsFaultOver gave failures source fault source_after
   pub read : List (List ℕ)
   pub gave_is : gave source read source_after
   pub shown : List ℕ
-  pub front : IsFront asked read shown
+  pub front : IsFront job read shown
   pub why : List ℕ
   pub why_is : IsFaultText fault why
   pub account_is : account ≡ cut_account name shown why
 
-abbrev pub IsShownAs : {S : Type 0} → (S → List (List ℕ) → S → Type 0) → (S → ℕ) → Asked → List ℕ → S → S → Account → Type 0
-IsShownAs gave failures asked name source source_after account =
-    IsStreamedAs gave asked name source source_after account ⊎ IsCutAs gave failures asked name source source_after account
+abbrev pub IsShownAs : {S : Type 0} → (S → List (List ℕ) → S → Type 0) → (S → ℕ) → Job → List ℕ → S → S → Account → Type 0
+IsShownAs gave failures job name source source_after account =
+    IsStreamedAs gave job name source source_after account ⊎ IsCutAs gave failures job name source source_after account
 
 -- the account of a file that is edited in its place: by a run over it, and replaced exactly where the run's text is kept
-pub record IsEditedAs {F : Type 0} (gave : F → List (List ℕ) → F → Type 0) (asked : Asked) (quiet : Bool) (name : List ℕ) (opened : Opened F) (account : Account) : Type 0 where
+pub record IsEditedAs {F : Type 0} (gave : F → List (List ℕ) → F → Type 0) (job : Job) (quiet : Bool) (name : List ℕ) (opened : Opened F) (account : Account) : Type 0 where
   pub report : Report
   pub replaced : Bool
-  pub edited : IsEdited gave opened.source asked report replaced
+  pub edited : IsEdited gave opened.source job report replaced
   pub account_is : account ≡ edited_account quiet name opened edited.text report replaced
 
 -- the account of one for which that failed, for a reason that is true; it holds what it had
@@ -100,11 +100,11 @@ pub record IsKeptAs {F : Type 0} (gave : F → List (List ℕ) → F → Type 0)
   pub account_is : account ≡ kept_account opened told
 
 -- The account of a file that was opened: it is shown where the flags say so or all commands print, and else edited in its place.
-abbrev pub IsOpenedAs : {F : Type 0} → (F → List (List ℕ) → F → Type 0) → (F → ℕ) → Flags → Asked → List ℕ → Opened F → Account → Type 0
-IsOpenedAs {F} gave failures flags asked name opened account =
-    ((is_shown flags.stdout asked.passes ≡ true) × (source_after : F) × IsShownAs gave failures asked name opened.source source_after account)
-    ⊎ ((is_shown flags.stdout asked.passes ≡ false)
-    × (IsEditedAs gave asked flags.quiet name opened account ⊎ IsKeptAs gave failures name opened account))
+abbrev pub IsOpenedAs : {F : Type 0} → (F → List (List ℕ) → F → Type 0) → (F → ℕ) → Flags → Job → List ℕ → Opened F → Account → Type 0
+IsOpenedAs {F} gave failures flags job name opened account =
+    ((is_shown flags.stdout job.passes ≡ true) × (source_after : F) × IsShownAs gave failures job name opened.source source_after account)
+    ⊎ ((is_shown flags.stdout job.passes ≡ false)
+    × (IsEditedAs gave job flags.quiet name opened account ⊎ IsKeptAs gave failures name opened account))
 
 -- the first of two paths, or the second where nothing is at the first
 abbrev pub IsFirst : {D : Type 0} → (D → List ℕ → Type 0) → D → List ℕ → List ℕ → List ℕ → Type 0
@@ -141,11 +141,11 @@ pub record IsUnopenedAs {D : Type 0} (absent : D → List ℕ → Type 0) (folde
   pub account_is : account ≡ failed_account (unopened_text (folder_of home) path why)
 
 -- the account of the file at that path
-abbrev pub IsFileAs : {D F : Type 0} → (List ℕ → List ℕ → F → Type 0) → (D → List ℕ → Type 0) → (F → List (List ℕ) → F → Type 0) → (F → ℕ) → Flags → Asked → D → Account → Type 0
-IsFileAs {D} {F} leads absent gave failures flags asked folder account =
+abbrev pub IsFileAs : {D F : Type 0} → (List ℕ → List ℕ → F → Type 0) → (D → List ℕ → Type 0) → (F → List (List ℕ) → F → Type 0) → (F → ℕ) → Flags → Job → D → Account → Type 0
+IsFileAs {D} {F} leads absent gave failures flags job folder account =
     (path : List ℕ)
-    × (IsUnopenedAs absent folder asked.home path account
-    ⊎ ((opened : Opened F) × IsOpened leads absent folder asked.home path opened × IsOpenedAs gave failures flags asked path opened account))
+    × (IsUnopenedAs absent folder job.home path account
+    ⊎ ((opened : Opened F) × IsOpened leads absent folder job.home path opened × IsOpenedAs gave failures flags job path opened account))
 
 -- This is what was done for a package: both outputs were handed it, the folder was left so, and the status is the package's own.
 pub record HasAccount {D O E : Type 0} (did : D → List Event → D → Type 0) (out_took : O → List ℕ → O → Type 0) (err_took : E → List ℕ → E → Type 0)
@@ -159,10 +159,10 @@ pub record HasAccount {D O E : Type 0} (did : D → List Event → D → Type 0)
 -- At each moment each file has what it had, or what it may hold. At status 3 no file was touched, but for a temporary one. A run that
 -- is shown changes no folder.
 pub record LeavesFiles {D F : Type 0} (did : D → List Event → D → Type 0) (leads : List ℕ → List ℕ → F → Type 0) (gave : F → List (List ℕ) → F → Type 0)
-    (stdout : Bool) (asked : Asked) (folder folder_after : D) (status : ℕ) : Type 0 where
-  pub safe : SafeRun did (MayHold leads gave asked) folder folder_after
+    (stdout : Bool) (job : Job) (folder folder_after : D) (status : ℕ) : Type 0 where
+  pub safe : SafeRun did (MayHold leads gave job) folder folder_after
   pub idle : status ≡ 3 → SafeRun did MayHoldNothing folder folder_after
-  pub shown : is_shown stdout asked.passes ≡ true → did folder [] folder_after
+  pub shown : is_shown stdout job.passes ≡ true → did folder [] folder_after
 
 -- whether no package comes after one with this status
 abbrev pub is_last : Bool → ℕ → Bool
@@ -175,21 +175,21 @@ Done = Account × ℕ
 module _ {D F S : Type 0} (leads : List ℕ → List ℕ → F → Type 0) (absent : D → List ℕ → Type 0)
     (gave : F → List (List ℕ) → F → Type 0) (failures : F → ℕ) (input_gave : S → List (List ℕ) → S → Type 0) (input_failures : S → ℕ) (flags : Flags) where
   -- The account of a package: of its file, or, where it has none, of standard input. Without memory for the paths of its file it failed.
-  abbrev pub IsAccountAt : Package → Asked → D → S → S → Account → Type 0
-  IsAccountAt None asked folder input input_after account = IsShownAs input_gave input_failures asked (codes "-") input input_after account
-  IsAccountAt (Some home) asked folder input input_after account =
+  abbrev pub IsAccountAt : Package → Job → D → S → S → Account → Type 0
+  IsAccountAt None job folder input input_after account = IsShownAs input_gave input_failures job (codes "-") input input_after account
+  IsAccountAt (Some home) job folder input input_after account =
       (input_after ≡ input)
-      × ((account ≡ failed_account (message_of home (codes "out of memory"))) ⊎ IsFileAs leads absent gave failures flags asked folder account)
+      × ((account ≡ failed_account (message_of home (codes "out of memory"))) ⊎ IsFileAs leads absent gave failures flags job folder account)
 
-  abbrev pub IsAccountOf : Asked → D → S → S → Account → Type 0
-  IsAccountOf asked folder input input_after account = IsAccountAt asked.home asked folder input input_after account
+  abbrev pub IsAccountOf : Job → D → S → S → Account → Type 0
+  IsAccountOf job folder input input_after account = IsAccountAt job.home job folder input input_after account
 
 module _ {D F S O E : Type 0} (did : D → List Event → D → Type 0) (leads : List ℕ → List ℕ → F → Type 0) (absent : D → List ℕ → Type 0)
     (gave : F → List (List ℕ) → F → Type 0) (failures : F → ℕ) (input_gave : S → List (List ℕ) → S → Type 0) (input_failures : S → ℕ)
     (out_took : O → List ℕ → O → Type 0) (err_took : E → List ℕ → E → Type 0) (flags : Flags) where
   -- A package was handled, and this is its account. Its status is 2 where an output has failed.
-  pub record IsHandled (asked : Asked) (devices devices_after : Devices D S O E) (account : Account) (status : ℕ) : Type 0 where
-    pub is_its : IsAccountOf leads absent gave failures input_gave input_failures flags asked devices.draft.folder devices.input devices_after.input account
+  pub record IsHandled (job : Job) (devices devices_after : Devices D S O E) (account : Account) (status : ℕ) : Type 0 where
+    pub is_its : IsAccountOf leads absent gave failures input_gave input_failures flags job devices.draft.folder devices.input devices_after.input account
     pub left : Leaves did account.puts devices.draft.folder devices_after.draft.folder
     pub shows : Shows out_took err_took devices.console account.shown account.told devices_after.console
     pub status_is : status ≡ (if has_failed devices_after.console then 2 else account.status)
@@ -199,7 +199,7 @@ module _ {D F S O E : Type 0} (did : D → List Event → D → Type 0) (leads :
   AreHandled [] devices dones devices_after = (dones ≡ []) × (devices_after ≡ devices)
   AreHandled (task ∷ tasks) devices [] devices_after = ⊥
   AreHandled (task ∷ tasks) devices (done ∷ dones) devices_after =
-      (devices_then : Devices D S O E) × IsHandled (asked_for flags.k task) devices devices_then done.0 done.1
+      (devices_then : Devices D S O E) × IsHandled (job_of flags.k task) devices devices_then done.0 done.1
       × (is_last flags.k done.1 ≡ true → (dones ≡ []) × (devices_after ≡ devices_then))
       × (is_last flags.k done.1 ≡ false → AreHandled tasks devices_then dones devices_after)
 

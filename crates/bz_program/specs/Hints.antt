@@ -18,7 +18,7 @@ is_build_file path = list_any (bytes_eq path) (codes "BUILD" ∷ codes "BUILD.ba
 abbrev pub ends_in_build_file : List ℕ → Bool
 ends_in_build_file path = ends_with nat_eq path (codes "/BUILD") || ends_with nat_eq path (codes "/BUILD.bazel")
 
--- the same of other files that Bazel reads
+-- the names of other files that Bazel reads, and paths that end in one
 abbrev pub is_other_file : List ℕ → Bool
 is_other_file path = list_any (bytes_eq path) (codes "WORKSPACE" ∷ codes "WORKSPACE.bazel" ∷ codes "MODULE.bazel" ∷ [])
 

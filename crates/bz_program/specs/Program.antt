@@ -7,25 +7,25 @@ use Rattle.bz_label.specs.Labels.{Package}
 use Rattle.bz_program.specs.Files as files
 use Rattle.bz_script.specs.Groups.{Step}
 use Rattle.bz_script.specs.Packages.{by_package}
-use Rattle.bz_program.specs.Runs.{Asked}
+use Rattle.bz_program.specs.Runs.{Job}
 
 -- a package, and the passes that are for it
 abbrev pub Task : Type 0
 Task = Package × Script
 
--- what is asked of a package, where failures end the run or not
-abbrev pub asked_for : Bool → Task → Asked
-asked_for keep_going (home, passes) = record { home = home; passes = passes; keep_going = keep_going }
+-- the job of a package, where failures end the run or not
+abbrev pub job_of : Bool → Task → Job
+job_of keep_going (home, passes) = record { home = home; passes = passes; keep_going = keep_going }
 
 -- The file of a package of the script may hold the whole text of a run with all its passes that is kept, over what was read of that
 -- very file.
 pub record MayHold {F : Type 0} (leads : List ℕ → List ℕ → F → Type 0) (gave : F → List (List ℕ) → F → Type 0) (keep_going : Bool) (script : List Step)
     (file : List ℕ) (content : Content) : Type 0 where
   pub task : Task
-  pub is_asked : Contains (by_package script) task
-  pub may : files.MayHold leads gave (asked_for keep_going task) file content
+  pub is_there : Contains (by_package script) task
+  pub may : files.MayHold leads gave (job_of keep_going task) file content
 
--- what is shown on standard output in place of its file: all that is asked where the flag says so, and a script that only asks
+-- what is shown on standard output in place of its file: all where the flag says so, and a script that only prints
 abbrev pub is_shown : Bool → Script → Bool
 is_shown stdout passes = stdout || is_query passes
 

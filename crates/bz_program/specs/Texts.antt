@@ -26,7 +26,7 @@ messages_text file messages = flat_map (message_of file) messages
 abbrev pub fixed_text : List ℕ → List ℕ
 fixed_text file = codes "fixed " ++ line_of file
 
--- the same where the flags let it be told
+-- what is told of a file, where it was replaced and the flags let it be told
 abbrev pub fixed_told : Bool → Bool → List ℕ → List ℕ
 fixed_told quiet replaced file = if replaced && not quiet then fixed_text file else []
 

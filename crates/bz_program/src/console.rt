@@ -58,8 +58,8 @@ impl<O: Sink, E: Sink> Console<O, E> {
         put_line(&mut self.err, file);
     }
 
-    /// Hands on what is kept back: first standard output, then standard error. An `Err` says that one of them failed, now
-    /// or earlier.
+    /// Hands on what is kept back: first standard output, then standard error. An `Err` says that one of them failed,
+    /// now or earlier.
     pub fn flush(&mut self) -> Result<(), Failed>
         ensures shows { Shows O.took E.took self.old [] [] self.new }
         ensures out { OnOk result ((self.new.out.waiting ≡ []) × (self.new.out.failed ≡ false)) }

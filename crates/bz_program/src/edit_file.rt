@@ -5,7 +5,7 @@ ghost use Rattle.bz_folder.specs.Sequence.{SafeRun};
 ghost use Rattle.bz_program.specs.Files as spec;
 
 use crate::file_run::{Ended, FileRun};
-use crate::run::Asked;
+use crate::run::Job;
 use bz_engine::{Report, RunFault};
 use bz_folder::{Draft, Folder, Opened, Trouble, replace_file};
 
@@ -23,22 +23,22 @@ pub enum FileFault {
 /// At each moment the file has its old bytes, or the whole text of the run if that is kept: of a run over what was read
 /// of the file itself.
 pub fn edit_file<D: Folder>(
-    asked: Asked,
+    job: Job,
     opened: Opened<D::File>,
     draft: &mut Draft<D>,
 ) -> Result<(Report, bool), FileFault>
-    ensures safe { SafeRun D.did (spec.MayBe D.File.gave opened.source asked (string_bytes opened.path))
+    ensures safe { SafeRun D.did (spec.MayBe D.File.gave opened.source job (string_bytes opened.path))
         draft.old.folder draft.new.folder }
-    ensures edited { IfOk result (λ edited. spec.IsEdited D.File.gave opened.source asked edited.0 edited.1) }
+    ensures edited { IfOk result (λ edited. spec.IsEdited D.File.gave opened.source job edited.0 edited.1) }
     // The file holds that run's text in the end where it was replaced, and else what it held.
-    ensures placed { spec.IsPlaced D.File.gave D.did asked opened result draft.old.folder draft.new.folder }
+    ensures placed { spec.IsPlaced D.File.gave D.did job opened result draft.old.folder draft.new.folder }
     ensures failed { IfErr result (λ fault. spec.IsFileFault D.File.gave D.File.failures opened.source fault) }
     // Where the file was not replaced, no file was touched, but for a temporary one.
     ensures idle { IfOk result (λ edited. edited.1 ≡ false
         → SafeRun D.did spec.MayHoldNothing draft.old.folder draft.new.folder) }
 {
     // The author owns the source, so no other run replaces the file before this one is done with it.
-    let mut author = FileRun::new(opened.source, asked);
+    let mut author = FileRun::new(opened.source, job);
     let replaced = replace_file(draft, &opened.path, opened.mode, &mut author);
     match author.ended() {
         Ended::Told(report) => report_and_kept(report, replaced),

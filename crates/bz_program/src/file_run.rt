@@ -3,7 +3,7 @@
 ghost use Rattle.std.specs.Prelude.{◌≡◌, Some};
 ghost use Rattle.bz_program.specs.FileRuns as spec;
 
-use crate::run::{Asked, is_kept};
+use crate::run::{Job, is_kept};
 use bz_engine::{Failed, Report, RunFault, Sink, Source};
 use bz_folder::Author;
 
@@ -20,19 +20,19 @@ pub enum Ended {
 #[derive(Drop)]
 pub struct FileRun<S> {
     source: S,
-    /// What is asked, until the run begins.
-    asked: Option<Asked>,
+    /// What is to be done, until the run begins.
+    job: Option<Job>,
     ended: Ended,
 }
 
 impl<S> FileRun<S> {
     /// A run over this source, which has not begun.
-    pub fn new(source: S, asked: Asked) -> FileRun<S>
-        ensures { (result.asked ≡ Some asked) × (result.ended ≡ Ended.NotYet) × (result.source ≡ source) }
+    pub fn new(source: S, job: Job) -> FileRun<S>
+        ensures { (result.job ≡ Some job) × (result.ended ≡ Ended.NotYet) × (result.source ≡ source) }
     {
         FileRun {
             source,
-            asked: Some(asked),
+            job: Some(job),
             ended: Ended::NotYet,
         }
     }
@@ -50,14 +50,14 @@ impl<S> FileRun<S> {
 impl<S: Source> Author for FileRun<S> {
     ghost use Rattle.bz_program.specs.FileRuns as spec;
 
-    ghost gives = { λ old text answer new. spec.GaveAnswer S.gave S.failures old.asked old.source text answer new.source new.ended };
+    ghost gives = { λ old text answer new. spec.GaveAnswer S.gave S.failures old.job old.source text answer new.source new.ended };
 
     fn write_to<W: Sink>(&mut self, sink: &mut W) -> Result<bool, Failed> {
-        let Some(asked) = self.asked.take() else {
+        let Some(job) = self.job.take() else {
             return Err(Failed);
         };
-        let keep_going = asked.keep_going;
-        match asked.run(&mut self.source, sink) {
+        let keep_going = job.keep_going;
+        match job.run(&mut self.source, sink) {
             Ok(report) => {
                 let kept = is_kept(&report, keep_going);
                 self.ended = Ended::Told(report);

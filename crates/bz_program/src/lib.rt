@@ -1,7 +1,8 @@
-//! The program as a call: the packages of a script are edited one after another, each in its file or on standard output.
+//! The program as a call: the packages of a script are edited one after another, each in its file or on standard
+//! output.
 //!
-//! `edit_all` edits the files of a disk, and `edit_packages` those of any folder. `main` of buildozer reads the words, and
-//! calls the former.
+//! `edit_all` edits the files of a disk, and `edit_packages` those of any folder. `main` of buildozer reads the words,
+//! and calls the former.
 #![tactic(auto)]
 
 mod console;
@@ -21,4 +22,4 @@ pub use console::Console;
 pub use disk::edit_all;
 pub use package::{Devices, edit_package};
 pub use packages::edit_packages;
-pub use run::Asked;
+pub use run::Job;

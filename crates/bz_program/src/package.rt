@@ -11,7 +11,7 @@ use crate::console::Console;
 use crate::edit_file::{FileFault, edit_file};
 use crate::edit_stream::edit_stream;
 use crate::hints::{of_unopened, of_unwritten};
-use crate::run::Asked;
+use crate::run::Job;
 use bz_engine::{RunFault, Sink, Source, is_query};
 use bz_folder::{CannotOpen, Draft, Folder, Opened, Purpose, Refusal};
 use bz_rule::Package;
@@ -39,15 +39,15 @@ pub struct Devices<D, S, O, E> {
 pub fn edit_package<D: Folder, S: Source, O: Sink, E: Sink>(
     alloc: Global,
     flags: &Flags,
-    asked: Asked,
+    job: Job,
     devices: &mut Devices<D, S, O, E>,
 ) -> u8
-    ensures files { spec.LeavesFiles D.did D.leads D.File.gave flags.now.stdout asked
+    ensures files { spec.LeavesFiles D.did D.leads D.File.gave flags.now.stdout job
         devices.old.draft.folder devices.new.draft.folder result }
     ensures handled { (account : spec.Account) × spec.IsHandled D.did D.leads D.absent D.File.gave D.File.failures
-        S.gave S.failures O.took E.took flags.now asked devices.old devices.new account result }
+        S.gave S.failures O.took E.took flags.now job devices.old devices.new account result }
 {
-    let status = edit_home(alloc, flags, asked, devices);
+    let status = edit_home(alloc, flags, job, devices);
     match devices.console.flush() {
         Ok(()) => status,
         Err(_) => FAILED,
@@ -58,20 +58,20 @@ pub fn edit_package<D: Folder, S: Source, O: Sink, E: Sink>(
 fn edit_home<D: Folder, S: Source, O: Sink, E: Sink>(
     alloc: Global,
     flags: &Flags,
-    asked: Asked,
+    job: Job,
     devices: &mut Devices<D, S, O, E>,
 ) -> u8
-    ensures files { spec.LeavesFiles D.did D.leads D.File.gave flags.now.stdout asked
+    ensures files { spec.LeavesFiles D.did D.leads D.File.gave flags.now.stdout job
         devices.old.draft.folder devices.new.draft.folder result }
     ensures account { spec.HasAccount D.did O.took E.took
-        (spec.IsAccountOf D.leads D.absent D.File.gave D.File.failures S.gave S.failures flags.now asked
+        (spec.IsAccountOf D.leads D.absent D.File.gave D.File.failures S.gave S.failures flags.now job
         devices.old.draft.folder devices.old.input devices.new.input)
         devices.old.draft.folder devices.new.draft.folder devices.old.console devices.new.console result }
 {
-    match asked.home.path() {
-        None => edit_shown(alloc, asked, "-", &mut devices.input, &mut devices.console),
+    match job.home.path() {
+        None => edit_shown(alloc, job, "-", &mut devices.input, &mut devices.console),
         Some(folder) => match BuildFiles::of(alloc, folder) {
-            Ok(files) => edit_found(alloc, flags, asked, &files, devices),
+            Ok(files) => edit_found(alloc, flags, job, &files, devices),
             Err(_) => {
                 devices.console.put_message(folder, "out of memory");
                 FAILED
@@ -83,16 +83,16 @@ fn edit_home<D: Folder, S: Source, O: Sink, E: Sink>(
 /// Edits what a source gives, and writes the text to standard output.
 fn edit_shown<S: Source, O: Sink, E: Sink>(
     alloc: Global,
-    asked: Asked,
+    job: Job,
     name: &str,
     source: &mut S,
     console: &mut Console<O, E>,
 ) -> u8
-    ensures { (account : spec.Account) × spec.IsShownAs S.gave S.failures asked name.now source.old source.new account
+    ensures { (account : spec.Account) × spec.IsShownAs S.gave S.failures job name.now source.old source.new account
         × Shows O.took E.took console.old account.shown account.told console.new
         × (account.puts ≡ []) × (result ≡ account.status) }
 {
-    match edit_stream(asked, name, source, console) {
+    match edit_stream(job, name, source, console) {
         Ok(status) => status,
         Err(fault) => put_fault(alloc, name, fault, console),
     }
@@ -102,29 +102,29 @@ fn edit_shown<S: Source, O: Sink, E: Sink>(
 fn edit_found<D: Folder, S, O: Sink, E: Sink>(
     alloc: Global,
     flags: &Flags,
-    asked: Asked,
+    job: Job,
     files: &BuildFiles,
     devices: &mut Devices<D, S, O, E>,
 ) -> u8
-    requires { spec.AreFilesOf asked.home (string_bytes files.now.first) (string_bytes files.now.second) }
-    ensures files { spec.LeavesFiles D.did D.leads D.File.gave flags.now.stdout asked
+    requires { spec.AreFilesOf job.home (string_bytes files.now.first) (string_bytes files.now.second) }
+    ensures files { spec.LeavesFiles D.did D.leads D.File.gave flags.now.stdout job
         devices.old.draft.folder devices.new.draft.folder result }
     ensures input { devices.new.input ≡ devices.old.input }
     ensures account { spec.HasAccount D.did O.took E.took
-        (spec.IsFileAs D.leads D.absent D.File.gave D.File.failures flags.now asked devices.old.draft.folder)
+        (spec.IsFileAs D.leads D.absent D.File.gave D.File.failures flags.now job devices.old.draft.folder)
         devices.old.draft.folder devices.new.draft.folder devices.old.console devices.new.console result }
 {
-    match open_first(devices.draft.folder(), files, purpose_of(flags, &asked)) {
-        Ok((opened, name)) => edit_opened(alloc, flags, asked, name, opened, devices),
-        Err((name, why)) => put_unopened(folder_of(&asked.home), name, why, &mut devices.console),
+    match open_first(devices.draft.folder(), files, purpose_of(flags, &job)) {
+        Ok((opened, name)) => edit_opened(alloc, flags, job, name, opened, devices),
+        Err((name, why)) => put_unopened(folder_of(&job.home), name, why, &mut devices.console),
     }
 }
 
 /// What the package's file is opened for: it stays where the flags say so or the script only asks.
-fn purpose_of(flags: &Flags, asked: &Asked) -> Purpose
-    ensures { result ≡ (if is_shown flags.now.stdout asked.now.passes then Purpose.Read else Purpose.Replace) }
+fn purpose_of(flags: &Flags, job: &Job) -> Purpose
+    ensures { result ≡ (if is_shown flags.now.stdout job.now.passes then Purpose.Read else Purpose.Replace) }
 {
-    if flags.stdout || is_query(asked.passes.as_slice()) {
+    if flags.stdout || is_query(job.passes.as_slice()) {
         Purpose::Read
     } else {
         Purpose::Replace
@@ -166,8 +166,8 @@ fn put_hint<O: Sink, E: Sink>(name: &str, hint: Option<&str>, console: &mut Cons
     }
 }
 
-/// Opens the first of the files that is there, and gives its name. An `Err` names the one that was tried last, and why it
-/// is not open.
+/// Opens the first of the files that is there, and gives its name. An `Err` names the one that was tried last, and why
+/// it is not open.
 fn open_first<'a, D: Folder>(
     folder: &D,
     files: &'a BuildFiles,
@@ -194,24 +194,24 @@ fn open_first<'a, D: Folder>(
 fn edit_opened<D: Folder, S, O: Sink, E: Sink>(
     alloc: Global,
     flags: &Flags,
-    asked: Asked,
+    job: Job,
     name: &str,
     opened: Opened<D::File>,
     devices: &mut Devices<D, S, O, E>,
 ) -> u8
-    requires { spec.IsOpened D.leads D.absent devices.old.draft.folder asked.home name.now opened }
-    ensures files { spec.LeavesFiles D.did D.leads D.File.gave flags.now.stdout asked
+    requires { spec.IsOpened D.leads D.absent devices.old.draft.folder job.home name.now opened }
+    ensures files { spec.LeavesFiles D.did D.leads D.File.gave flags.now.stdout job
         devices.old.draft.folder devices.new.draft.folder result }
     ensures input { devices.new.input ≡ devices.old.input }
     ensures account { spec.HasAccount D.did O.took E.took
-        (spec.IsOpenedAs D.File.gave D.File.failures flags.now asked name.now opened)
+        (spec.IsOpenedAs D.File.gave D.File.failures flags.now job name.now opened)
         devices.old.draft.folder devices.new.draft.folder devices.old.console devices.new.console result }
 {
-    if purpose_of(flags, &asked) == Purpose::Read {
+    if purpose_of(flags, &job) == Purpose::Read {
         let mut source = opened.source;
-        return edit_shown(alloc, asked, name, &mut source, &mut devices.console);
+        return edit_shown(alloc, job, name, &mut source, &mut devices.console);
     }
-    match edit_file(asked, opened, &mut devices.draft) {
+    match edit_file(job, opened, &mut devices.draft) {
         Ok((report, replaced)) => {
             put_replaced(flags, name, replaced, &mut devices.console);
             devices.console.put_report(name, &report);

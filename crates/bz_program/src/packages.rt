@@ -7,7 +7,7 @@ ghost use Rattle.bz_program.specs.Handled.{IsStatusOfAll};
 ghost use Rattle.bz_program.specs.Program as spec;
 
 use crate::package::{Devices, FAILED, edit_package};
-use crate::run::Asked;
+use crate::run::Job;
 use bz_engine::{Sink, Source};
 use bz_folder::Folder;
 use bz_memory::NoMemory;
@@ -46,12 +46,12 @@ pub fn edit_packages<D: Folder, S: Source, O: Sink, E: Sink>(
     let packages = by_package(alloc, script)?;
     let mut whole = whole_status(&[]);
     for (home, passes) in packages {
-        let asked = Asked {
+        let job = Job {
             home,
             passes,
             keep_going: flags.k,
         };
-        let status = edit_package(alloc, flags, asked, devices);
+        let status = edit_package(alloc, flags, job, devices);
         whole = whole_status(&[whole, status]);
         if status == FAILED && !flags.k {
             break;

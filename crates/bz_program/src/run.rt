@@ -17,24 +17,24 @@ const MAX_DEPTH: u8 = 100;
 /// The most reads of an input.
 const MAX_READS: u64 = 4_294_967_296;
 
-/// What is asked of a package.
+/// What is to be done to a package: its passes, and whether a failure ends them.
 #[derive(Drop)]
-pub struct Asked {
+pub struct Job {
     pub home: Package,
     pub passes: Vec<Pass<Target, Command>>,
     /// A failure does not end the run.
     pub keep_going: bool,
 }
 
-impl Model for Asked {
+impl Model for Job {
     ghost use Rattle.bz_program.specs.Runs as spec;
 
-    ghost Value = { spec.Asked };
+    ghost Value = { spec.Job };
 
     ghost view = { λ a. record { home = a.home; passes = a.passes.items; keep_going = a.keep_going } };
 }
 
-impl Asked {
+impl Job {
     /// Makes the passes over the statements of the source, one pass after another, and writes what they leave.
     pub fn run<S: Source, W: Sink>(self, source: &mut S, sink: &mut W) -> Result<Report, RunFault>
         ensures ran { IfOk result

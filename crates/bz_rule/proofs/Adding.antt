@@ -12,7 +12,8 @@ use Rattle.bz_label.specs.declared.label_set.LabelSet.{LabelSet}
 use Rattle.bz_rule.specs.Add.{add, adds, fresh, is_fresh, new_elements, with_added}
 use Rattle.bz_attribute.specs.Effects.{argument, done, edit_first, has, list_item, not_a_list, string, with_args}
 use Rattle.bz_attribute.specs.Elements.{AreElementsTo, AreLists, IsListIn, IsValueAt}
-use Rattle.bz_attribute.specs.Lists.{edit_first_part, parts, same, with_value}
+use Rattle.bz_attribute.specs.Lists.{parts, same, with_value}
+use Rattle.bz_attribute.specs.ListWalk.{edit_first_part}
 use Rattle.bz_attribute.specs.RowEdits.{replaced_at}
 use Rattle.bz_attribute.specs.RowPlaces.{IsLocal, IsPlaceOf, IsRuleRow, alone}
 use Rattle.bz_attribute.specs.Rules.{Rule, first_named, is_named, value}

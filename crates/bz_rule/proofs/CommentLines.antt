@@ -7,13 +7,14 @@ use Rattle.bz_tree.specs.Rows.{RowPart, above, parts_of}
 use Rattle.bz_tree.specs.Tree.{Item, Segment, Statement}
 use Rattle.bz_label.specs.Labels.{Package}
 use Rattle.bz_rule.specs.Comment.{comment_element, comment_line, comment_note, comment_value, is_blank, trimmed}
-use Rattle.bz_attribute.specs.Effects.{done, edit_first, has, is_absent, with_args, edit_element, with_comment}
+use Rattle.bz_attribute.specs.Effects.{done, edit_first, has, is_absent, with_args, with_comment}
+use Rattle.bz_attribute.specs.ListWalk.{edit_element}
 use Rattle.bz_attribute.specs.Elements.{IsFirstEqual, IsListIn, IsValueAt, elements_left}
 use Rattle.bz_attribute.specs.Lists.{equals, parts}
 use Rattle.bz_attribute.specs.RowPlaces.{IsRuleRow}
 use Rattle.bz_attribute.specs.Rules.{Rule, first_named, is_named, value}
 use Rattle.bz_attribute.specs.declared.done.Note.{Note}
-use Rattle.bz_attribute.specs.declared.done.Note.TheVariants.{NoAttribute, NoValue, NotAList}
+use Rattle.bz_attribute.specs.declared.done.Note.TheVariants.{NoValue, NotAList}
 use Rattle.bz_attribute.proofs.EditedAt.{with_args_at}
 use Rattle.bz_attribute.proofs.ElementSearch.{in_all}
 use Rattle.bz_attribute.proofs.ListEdits.{found_opened}
@@ -64,9 +65,6 @@ trim_end (b ∷ bs) h =
 -- what is told
 pub argument_told : (attr : List ℕ) (args : List Segment) → has attr args ≡ true → done None true ≡ done (is_absent attr args) true
 argument_told attr args there = rw there refl
-
-pub absent_told : (home : Package) (attr v : List ℕ) (args : List Segment) → has attr args ≡ false → done (Some (NoAttribute attr)) false ≡ done (comment_note home attr v args) true
-absent_told home attr v args none = rw none refl
 
 pub no_list_told : (home : Package) (attr v : List ℕ) (args : List Segment) (a : Segment) → first_named attr args ≡ Some a → parts (value a) ≡ [] → done (Some (NotAList attr)) false ≡ done (comment_note home attr v args) true
 no_list_told home attr v args a first none = rw (is_there attr args a first, first, none) refl

@@ -12,7 +12,7 @@ use Rattle.bz_tree.specs.Rows.{RowPart, above, beside_part, segment_end, items_p
 use Rattle.bz_attribute.specs.Elements.{value_parts}
 use Rattle.bz_attribute.specs.Effects.{filtered, loses_all}
 use Rattle.bz_attribute.specs.RowPlaces.{IsFirstArgument, argument_parts}
-use Rattle.bz_attribute.specs.Lists.{edit_parts, is_attribute, is_list, parts, with_value}
+use Rattle.bz_attribute.specs.Lists.{edit_parts, is_attribute, parts, with_value, only_list}
 use Rattle.bz_attribute.specs.Rules.{elements, value}
 use Rattle.bz_attribute.proofs.EditedAt.{segs_join}
 use Rattle.bz_attribute.proofs.ListElements.{IsKeyword, is_keyword}
@@ -22,7 +22,7 @@ use Rattle.bz_rule.specs.private.ArgumentEdits.{edited, HasEdited, HasEditedOne,
 use Rattle.bz_rule.specs.private.StringEdits.{become_all, changes, HasMadeWay, is_meant, IsUpTo, written_to}
 use Rattle.bz_rule.proofs.ElementEdits.{after_them, and_them}
 use Rattle.bz_rule.proofs.WrittenParts.{is_made, none_more, passed, put, some_more}
-use Rattle.bz_token.specs.Common.{is_empty}
+use Rattle.bz_token.specs.Common.{is_empty, map_or}
 
 -- the parts of an argument, and what stands after it
 apart : (a : Segment) (others : List Segment) → argument_parts a others ≡ segs_parts (segs_of (a ∷ [])) ++ segs_parts (segs_of others)
@@ -99,9 +99,9 @@ any_gone p (s ∷ ss) h = elim (is_meant p s) as (λ b. is_empty ((if b then [] 
 pub lost_changes : (p : Option (List ℕ) → Bool) (nodes : List Item) → loses_all (become_all p None) nodes ≡ true → list_any (list_any (is_meant p)) (parts nodes) ≡ true
 lost_changes p [] h = absurd (false≢true h)
 lost_changes p (group ListKind segs one_comma end ∷ []) h = or-false (list_any (is_meant p) (segments segs)) ∙ any_gone p (segments segs) h
-lost_changes p (group _ segs one_comma end ∷ []) h = absurd (false≢true h)
-lost_changes p (leaf k text ∷ []) h = absurd (false≢true h)
-lost_changes p (x ∷ y ∷ xs) h = absurd (false≢true h)
+lost_changes p (leaf k text ∷ xs) h = absurd (false≢true h)
+lost_changes p (group ListKind segs one_comma end ∷ y ∷ xs) h = absurd (false≢true h)
+lost_changes p (group _ segs one_comma end ∷ xs) h = absurd (false≢true h)
 
 -- what becomes another is never lost
 never_nil : (p : Option (List ℕ) → Bool) (literal : List ℕ) (ss : List Segment) → (not (is_empty ss) && is_empty (become_all p (Some literal) ss)) ≡ false
@@ -109,10 +109,8 @@ never_nil p literal [] = refl
 never_nil p literal (s ∷ ss) = elim (is_meant p s) as (λ b. is_empty ((if b then record s { nodes = leaf String literal ∷ [] } ∷ [] else s ∷ []) ++ become_all p (Some literal) ss) ≡ false) [ true ↦ refl | false ↦ refl ]
 
 pub never_lost : (p : Option (List ℕ) → Bool) (literal : List ℕ) (nodes : List Item) → loses_all (become_all p (Some literal)) nodes ≡ false
-never_lost p literal [] = refl
-never_lost p literal (x ∷ y ∷ xs) = refl
-never_lost p literal (x ∷ []) =
-    elim (is_list x) as (λ b. (b && not (is_empty (elements x)) && is_empty (become_all p (Some literal) (elements x))) ≡ false) [ true ↦ never_nil p literal (elements x) | false ↦ refl ]
+never_lost p literal nodes =
+    elim (only_list nodes) as (λ o. map_or false (λ ss. not (is_empty ss) && is_empty (become_all p (Some literal) ss)) o ≡ false) [ None ↦ refl | Some ss ↦ never_nil p literal ss ]
 
 pub lost : (p : Option (List ℕ) → Bool) (literal : Option (List ℕ)) (a : Segment) (others : List Segment) (at nodes to : ℕ) (name : Option (List ℕ)) (ps : List RowPart) (written : Option Place) (out before : List RowPart) (was : Bool) → HasMadeWay before ps out (record { from = at; to = at + to }) written
     → drop at ps ≡ argument_parts a others → IsFirstArgument a nodes to name → loses_all (become_all p literal) (value a) ≡ true → HasEdited (filtered (become_all p literal)) (changes p) a others (drop (at + to) ps) was (is_some written) before (written_to written out ps (at + to))

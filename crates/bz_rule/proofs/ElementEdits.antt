@@ -12,7 +12,8 @@ use Rattle.bz_tree.specs.Rows.{RowPart, a_token, above, beside_part, closing, se
 use Rattle.bz_label.specs.Labels.{Package}
 use Rattle.bz_attribute.specs.Rules.{elements, only_text}
 use Rattle.bz_attribute.specs.Elements.{HasNoList, IsListIn, IsNextElement, ListRest, edited_rest, elements_left, rest_parts, value_parts}
-use Rattle.bz_attribute.specs.Lists.{edit_from, edit_list, edit_parts, is_part, is_plus, parts, parts_from}
+use Rattle.bz_attribute.specs.Lists.{edit_parts, is_plus, parts}
+use Rattle.bz_attribute.specs.ListWalk.{edit_from, edit_list, is_part, parts_from}
 use Rattle.bz_attribute.specs.declared.place.Place.{Place}
 use Rattle.bz_attribute.proofs.LabelSets.{any_joined}
 use Rattle.bz_attribute.proofs.ListEdits.{list_cut, long_opened, opened}

@@ -1,5 +1,5 @@
 -- A list that loses all its elements, told by its parts.
-use Rattle.std.proofs.Common.{◌≡◌, ℕ, ◌<◌, List, [], ◌∷◌, ◌++◌, Bool, true, false, ◌&&◌, not, if◌then◌else◌, Option, None, drop, refl, ap, sym, ◌∙◌, arith, append_assoc, append-nil}
+use Rattle.std.proofs.Common.{◌≡◌, ℕ, ◌<◌, List, [], ◌∷◌, ◌++◌, Bool, true, false, ◌&&◌, not, if◌then◌else◌, Option, None, Some, is_some, drop, refl, ap, sym, ◌∙◌, arith, append_assoc, append-nil}
 use Rattle.std.specs.Prelude.{nat_lt}
 use Rattle.std.proofs.lemmas.Bool.Decides.{nat_tests}
 use Rattle.std.proofs.lemmas.Grind.{flat_map-append}
@@ -7,10 +7,10 @@ use Rattle.bz_tree.specs.Tree.{Item, Segment}
 use Rattle.bz_tree.specs.Rows.{RowPart}
 use Rattle.bz_attribute.specs.Elements.{IsElementOf, IsOnlyList, ListRest, list_item, rest_parts}
 use Rattle.bz_attribute.specs.Effects.{loses_all}
-use Rattle.bz_attribute.specs.Lists.{is_list, is_only}
+use Rattle.bz_attribute.specs.Lists.{only_list}
 use Rattle.bz_attribute.proofs.Views.{segments_of}
 use Rattle.bz_rule.specs.private.StringEdits.{become, become_all}
-use Rattle.bz_token.specs.Common.{is_empty}
+use Rattle.bz_token.specs.Common.{is_empty, map_or}
 use Rattle.std.proofs.Math.Bool.{and-false, and-true}
 
 -- Some elements of a list were seen, and all are meant.
@@ -25,10 +25,12 @@ pub record AreGone (p : Option (List ℕ) → Bool) (nodes : List Item) (after p
   pub some : nat_lt first at ≡ not (is_empty front)
 
 -- the value is no list alone
-pub no_list : (f : List Segment → List Segment) (nodes : List Item) → is_only is_list nodes ≡ false → loses_all f nodes ≡ false
-no_list f [] h = refl
-no_list f (x ∷ []) h = rw h refl
-no_list f (x ∷ y ∷ xs) h = refl
+none_lost : (g : List Segment → Bool) (o : Option (List Segment)) → is_some o ≡ false → map_or false g o ≡ false
+none_lost g None h = refl
+none_lost g (Some ss) h = absurd cc
+
+pub no_list : (f : List Segment → List Segment) (nodes : List Item) → is_some (only_list nodes) ≡ false → loses_all f nodes ≡ false
+no_list f nodes h = none_lost (λ ss. not (is_empty ss) && is_empty (f ss)) (only_list nodes) h
 
 -- it is
 pub none_gone : (p : Option (List ℕ) → Bool) (nodes : List Item) (after ps : List RowPart) (first : ℕ) → IsOnlyList nodes after ps first → AreGone p nodes after ps first first

@@ -9,10 +9,11 @@ use Rattle.bz_label.specs.declared.arguments.Commented.TheVariants.{Rule as Abov
 use Rattle.bz_label.specs.declared.arguments.Moved.TheVariants.{Values}
 use Rattle.bz_label.specs.declared.arguments.Setting.TheVariants.{ToKind, ToValues}
 use Rattle.bz_attribute.specs.Rules.{Rule, rule_of, first_named, is_named, is_text, name_in, name_of, value, string_value}
-use Rattle.bz_attribute.specs.Lists.{edit_first_part, edit_parts, equals, parts, with_value}
+use Rattle.bz_attribute.specs.Lists.{edit_parts, equals, parts, with_value}
+use Rattle.bz_attribute.specs.ListWalk.{edit_first_part, edit_element}
 use Rattle.bz_rule.specs.Add.{add, new_elements, with_added}
 use Rattle.bz_rule.specs.Comment.{comment_attribute, comment_element, comment_line, comment_note, comment_rule, comment_value}
-use Rattle.bz_attribute.specs.Effects.{argument, edit_first, filtered, has, list_item, loses_all, unchosen, with_args, edit_element, with_comment}
+use Rattle.bz_attribute.specs.Effects.{argument, edit_first, filtered, has, list_item, loses_all, unchosen, with_args, with_comment}
 use Rattle.bz_attribute.specs.Heads.{HasHead}
 use Rattle.bz_attribute.specs.declared.head.Head.{Head}
 use Rattle.bz_rule.specs.Replace.{replace, replaced, replaced_in}
@@ -25,7 +26,7 @@ use Rattle.bz_rule.specs.OneAttribute.{one_attribute}
 use Rattle.bz_rule.specs.private.RowEdits.{KeepsHead, edits_arguments, rule_after}
 use Rattle.bz_rule.proofs.Arguments.{attribute_named, name_put}
 use Rattle.bz_rule.proofs.Lawfulness.{local}
-use Rattle.bz_rule.proofs.RowEdited.{args_rule, none_above, one_above}
+use Rattle.bz_rule.proofs.RowEdited.{args_rule, none_above}
 use Rattle.bz_token.specs.Common.{is_empty}
 use Rattle.bz_attribute.proofs.Locals.{has_first, is_first_named}
 use Rattle.bz_attribute.proofs.EditedRules.{rule_after as rule_edited, rule_with}
@@ -205,9 +206,6 @@ head_stays c home attr s r is h rule = record {
 commented : (text : List ℕ) (s : Statement) (head : Option Head) → HasHead head s → HasHead head (comment_rule text s)
 commented text s None has = has
 commented text s (Some head) has = record { rule = has.rule; is = has.is; kind_is = has.kind_is; name_is = has.name_is; start_is = has.start_is; end_is = has.end_is }
-
-pub head_below : (text : List ℕ) (home : Package) (s : Statement) (r : Rule) → rule_of s.nodes ≡ Some r → KeepsHead 1 s (rule_after (Comment Above text) home s)
-head_below text home s r is = record { head = commented text s; more = one_above text home s r is }
 
 pub name_stays : (c : Command) (home : Package) (attr : List ℕ) (args : List Segment) → one_attribute c ≡ Some attr → bytes_eq attr (codes "name") ≡ false → name_in (args_after c home args) ≡ name_in args
 name_stays c home attr args is h = ap (option_and_then (λ a. string_value (value a))) (name_kept c home attr is h args)

@@ -9,7 +9,8 @@ use Rattle.bz_rule.specs.Commands.{Command, is_command, after, args_after, args_
 use Rattle.bz_attribute.specs.Rules.{Rule, rule_of}
 use Rattle.bz_attribute.specs.declared.done.Done.{Done}
 use Rattle.bz_attribute.specs.declared.done.Note.{Note}
-use Rattle.bz_attribute.specs.Effects.{done, holds_rule, nodes_after, nodes_of, slot_done, with_args}
+use Rattle.bz_attribute.specs.Effects.{done, holds_rule, nodes_of, slot_done, with_args}
+use Rattle.bz_attribute.specs.private.RuleNodes.{nodes_after}
 use Rattle.bz_attribute.specs.RowPlaces.{IsLocal, LooksAt}
 use Rattle.bz_rule.specs.OneAttribute.{one_attribute}
 use Rattle.bz_attribute.proofs.Views.{segments_of}
@@ -65,7 +66,7 @@ statement_stays c home law s h =
     elim (rule_of s.nodes) as (λ r. rule_of s.nodes ≡ r → (map_or (done None false) (λ r. (args_done c home) r.args) r).changed ≡ false → record s { nodes = nodes_after (args_after c home) s.nodes r } ≡ s) [
       | None ↦ λ e k. refl
       | Some r ↦ λ e k.
-          let kept : nodes_after (args_after c home) s.nodes (Some r) ≡ s.nodes = ap (λ (args : List Segment). nodes_of (record r { args = args })) (law.stays r.args k) ∙ rule_nodes [] s.nodes r e in
+          let kept : nodes_after (args_after c home) s.nodes (Some r) ≡ s.nodes = ap (λ (args : List Segment). nodes_of (record r { args = args })) (law.stays r.args k) ∙ rule_nodes s.nodes r e in
           ap (λ (nodes : List Item). record s { nodes = nodes }) kept
     ] refl h
 
@@ -73,7 +74,7 @@ statement_differs : (c : Command) (home : Package) → OnArguments c home → is
 statement_differs c home law read s h same =
     elim (rule_of s.nodes) as (λ r. rule_of s.nodes ≡ r → (map_or (done None false) (λ r. (args_done c home) r.args) r).changed ≡ true → record s { nodes = nodes_after (args_after c home) s.nodes r } ≡ s → ⊥) [
       | None ↦ λ e k i. cc
-      | Some r ↦ λ e k i. law.differs read r.args k (call_same r (args_after c home r.args) (ap (λ (z : Statement). z.nodes) i ∙ sym (rule_nodes [] s.nodes r e)))
+      | Some r ↦ λ e k i. law.differs read r.args k (call_same r (args_after c home r.args) (ap (λ (z : Statement). z.nodes) i ∙ sym (rule_nodes s.nodes r e)))
     ] refl h same
 
 slot_stays : (c : Command) (home : Package) → OnArguments c home → (slot : Option Statement) → (slot_done (args_done c home) slot).changed ≡ false → option_map (with_args (args_after c home)) slot ≡ slot

@@ -8,15 +8,22 @@ pub mod Remove
 pub mod Rename
 pub mod Replace
 pub mod Set
-use Rattle.std.proofs.Common.{◌≡◌, ◌↔◌, ℕ, List, Bool, true, false, Option, Some, None, is_some, refl, ap, sym, ◌∙◌, subst, Result, Ok, Err, if◌then◌else◌}
-use Rattle.std.specs.Prelude.{IfSome, bytes_eq, codes}
-use Rattle.bz_tree.specs.Tree.{Statement}
+use Rattle.std.proofs.Common.{◌≡◌, ◌↔◌, ℕ, List, Bool, true, false, not, Option, Some, None, is_some, refl, ap, sym, ◌∙◌, subst, Result, Ok, Err, if◌then◌else◌}
+use Rattle.std.specs.Prelude.{IfSome, bytes_eq, codes, option_and_then}
+use Rattle.bz_token.specs.Common.{map_or}
+use Rattle.bz_tree.specs.Tree.{Segment, Statement}
 use Rattle.bz_label.specs.Labels.{Package}
-use Rattle.bz_rule.specs.Commands.{Command, is_command, after, done_of, IsRead, a_command, named_command, add_of, comment_of, delete_of, move_of, print_of, remove_of, rename_of, replace_of, set_if_absent_of, set_of}
+use Rattle.bz_rule.specs.Commands.{Command, is_command, after, args_changed, args_done, args_note, done_of, note_of, printed_line, IsRead, a_command, named_command, add_of, comment_of, delete_of, move_of, print_of, remove_of, rename_of, replace_of, set_if_absent_of, set_of}
 use Rattle.bz_rule.specs.declared.command.Action.{Action}
 use Rattle.bz_attribute.specs.declared.done.Done.{Done}
 use Rattle.bz_attribute.specs.declared.done.Note.{Note}
-use Rattle.bz_attribute.specs.Effects.{fails, holds_rule}
+use Rattle.bz_attribute.specs.Effects.{done, fails, holds_rule, slot_done}
+use Rattle.bz_attribute.specs.Rules.{Rule, kind_text, rule_of}
+use Rattle.bz_label.specs.declared.arguments.Setting.TheVariants.{ToKind, ToValues}
+use Rattle.bz_label.specs.declared.arguments.Commented.TheVariants.{Rule as OfRule, Attribute, Value}
+use Rattle.bz_rule.specs.Set.{sets_kind_of}
+use Rattle.bz_rule.specs.Print.{fields_of, line_of, missing, printed, prints}
+use Rattle.bz_rule.specs.declared.commands.field.Field.{Field}
 use Rattle.bz_rule.specs.OneAttribute.{one_attribute}
 use Rattle.bz_rule.proofs.Lawful.{Lawful, Local}
 use Rattle.bz_rule.proofs.Lawfulness.Add.{add_lawful, add_read}
@@ -76,6 +83,70 @@ changed_tells c home slot h = let law = lawful c home in both_ways (done_of c ho
 -- what a command tells of a slot is so of what it made of it
 pub told_of_slot : (c : Command) (home : Package) (slot new : Option Statement) (d : Done) → is_command c ≡ true → new ≡ after c home slot → d ≡ done_of c home slot → (d.changed ≡ true) ↔ (new ≡ slot → ⊥)
 told_of_slot c home slot new d h is told = rw (told, is) (changed_tells c home slot h)
+
+-- what is told of a command is its note, and what it prints
+abbrev Notes : Done → Option Note → Type 0
+Notes d n = (d.note ≡ n) × (d.line ≡ None)
+
+done_notes : (n : Option Note) (b : Bool) → Notes (done n b) n
+done_notes None b = (refl, refl)
+done_notes (Some n) b = (refl, refl)
+
+-- of one on the arguments of the rule in a slot
+abbrev in_slot : (List Segment → Option Note) → Option Statement → Option Note
+in_slot note slot = option_and_then (λ (s : Statement). option_and_then (λ (r : Rule). note r.args) (rule_of s.nodes)) slot
+
+args_notes : (c : Command) (home : Package) (slot : Option Statement) → Notes (slot_done (args_done c home) slot) (in_slot (args_note c home) slot)
+args_notes c home None = (refl, refl)
+args_notes c home (Some s) = by (rule_of s.nodes)
+  where
+    by : (rule : Option Rule) → Notes (map_or (done None false) (λ (r : Rule). args_done c home r.args) rule) (option_and_then (λ (r : Rule). args_note c home r.args) rule)
+    by None = (refl, refl)
+    by (Some r) = done_notes (args_note c home r.args) (args_changed c home r.args)
+
+nothing_noted : (slot : Option Statement) → None ≡ in_slot (λ args. None) slot
+nothing_noted None = refl
+nothing_noted (Some s) = by (rule_of s.nodes)
+  where
+    by : (rule : Option Rule) → None ≡ option_and_then (λ (r : Rule). let none : Option Note = None in none) rule
+    by None = refl
+    by (Some r) = refl
+
+kind_notes : (kind : List ℕ) (slot : Option Statement) → Notes (sets_kind_of kind slot) None
+kind_notes kind None = (refl, refl)
+kind_notes kind (Some s) = by (rule_of s.nodes)
+  where
+    by : (rule : Option Rule) → Notes (map_or (done None false) (λ (r : Rule). done None (not (bytes_eq (kind_text r.kind) kind))) rule) None
+    by None = (refl, refl)
+    by (Some r) = (refl, refl)
+
+abbrev Prints : Done → Option Note → Option (List ℕ) → Type 0
+Prints d note line = (d.note ≡ note) × (d.line ≡ line)
+
+printed_notes : (home : Package) (fields : List Field) (slot : Option Statement) → Prints (prints home fields slot) (note_of (Action.Print fields) home slot) (printed_line (Action.Print fields) home slot)
+printed_notes home fields None = (refl, refl)
+printed_notes home fields (Some s) = by (rule_of s.nodes)
+  where
+    by : (rule : Option Rule) → Prints (map_or (done None false) (λ (r : Rule). printed home s r (fields_of fields)) rule)
+        (option_and_then (λ (r : Rule). missing home s r (fields_of fields)) rule) (option_and_then (λ (r : Rule). Some (line_of home s r (fields_of fields))) rule)
+    by None = (refl, refl)
+    by (Some r) = (refl, refl)
+
+pub told : (c : Command) (home : Package) (slot : Option Statement)
+    → ((done_of c home slot).note ≡ note_of c home slot) × ((done_of c home slot).line ≡ printed_line c home slot)
+told Action.Delete home slot = (nothing_noted slot, refl)
+told (Action.Set (ToKind kind)) home slot = let notes = kind_notes kind slot in (notes.0 ∙ nothing_noted slot, notes.1)
+told (Action.Comment OfRule text) home slot = (nothing_noted slot, refl)
+told (Action.Print fields) home slot = printed_notes home fields slot
+told (Action.Add attr values) home slot = args_notes (Action.Add attr values) home slot
+told (Action.Remove attrs values) home slot = args_notes (Action.Remove attrs values) home slot
+told (Action.Set (ToValues attr values)) home slot = args_notes (Action.Set (ToValues attr values)) home slot
+told (Action.SetIfAbsent attr values) home slot = args_notes (Action.SetIfAbsent attr values) home slot
+told (Action.Rename old new) home slot = args_notes (Action.Rename old new) home slot
+told (Action.Move old new chosen) home slot = args_notes (Action.Move old new chosen) home slot
+told (Action.Replace attrs old new) home slot = args_notes (Action.Replace attrs old new) home slot
+told (Action.Comment (Attribute attr) text) home slot = args_notes (Action.Comment (Attribute attr) text) home slot
+told (Action.Comment (Value attr value) text) home slot = args_notes (Action.Comment (Value attr value) text) home slot
 
 -- what is read of words that are UTF-8 can be read, and its words are UTF-8
 row : (test : Bool) (one : Result Command CommandFault) (others : Result (Option Command) CommandFault) (c : Command) → (Ok c ≡ one → IsRead c) → (Ok (Some c) ≡ others → IsRead c)

@@ -7,6 +7,7 @@ pub mod CommentLines
 pub mod EachArgument
 pub mod ElementEdits
 pub mod EmptiedLists
+mod Examples
 pub mod FirstEdits
 pub mod HeadKept
 pub mod Kept

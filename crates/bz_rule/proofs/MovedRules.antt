@@ -9,7 +9,9 @@ use Rattle.bz_label.specs.Labels.{Package}
 use Rattle.bz_label.specs.declared.arguments.Moved.{Moved}
 use Rattle.bz_attribute.specs.Effects.{done, edit_first, filtered, is_chosen, not_a_list, with_args}
 use Rattle.bz_attribute.specs.Elements.{AreLists, elements_left}
-use Rattle.bz_attribute.specs.Lists.{edit_first_part, edit_list, edit_one_from, is_joint, is_part, is_plus, parts, parts_from, with_value}
+use Rattle.bz_attribute.specs.Lists.{is_joint, is_plus, parts, with_value}
+use Rattle.bz_attribute.specs.ListWalk.{edit_first_part, edit_list, edit_one_from, is_part, parts_from}
+use Rattle.bz_attribute.proofs.ListPieces.{edit_first_part_is, parts_are}
 use Rattle.bz_rule.specs.Move.{arrivals, elements_of, move, move_note, moved, moves, put_in}
 use Rattle.bz_attribute.specs.RowEdits.{IsRowEdit, replaced_at}
 use Rattle.bz_attribute.specs.RowPlaces.{IsRuleRow}
@@ -39,8 +41,9 @@ one_stays f start (x ∷ xs) h =
 
 no_part_stays : (f : List Segment → List Segment) (xs : List Item) → parts xs ≡ [] → edit_first_part f xs ≡ xs
 no_part_stays f xs h =
-    elim (list_all is_joint xs) as (λ b. (if b then parts_from true xs else []) ≡ [] → (if b then edit_one_from f true xs else xs) ≡ xs)
-    [ true ↦ λ k. one_stays f true xs k | false ↦ λ k. refl ] h
+    edit_first_part_is f xs
+    ∙ elim (list_all is_joint xs) as (λ b. (if b then parts_from true xs else []) ≡ [] → (if b then edit_one_from f true xs else xs) ≡ xs)
+    [ true ↦ λ k. one_stays f true xs k | false ↦ λ k. refl ] (sym (parts_are xs) ∙ h)
 
 pub put_nowhere : (name : List ℕ) (ss : List Segment) (s : Statement) (r : Rule) (ps : List RowPart) → IsRuleRow s r ps → HasNoListPart name s r ps → ps ≡ parts_of (with_args (put_in name ss) s)
 put_nowhere name ss s r ps h lack =

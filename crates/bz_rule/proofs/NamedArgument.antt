@@ -5,7 +5,8 @@ use Rattle.std.proofs.Math.Seq.{drop-append_seam, take-append_seam}
 use Rattle.bz_tree.specs.Tree.{Segment, Statement, items_of}
 use Rattle.bz_tree.specs.Rows.{RowPart, segment_end, above, beside_part, items_parts, parts_of}
 use Rattle.bz_attribute.specs.Rules.{Rule, first_named, is_named}
-use Rattle.bz_attribute.specs.Effects.{edit_first, has, nodes_after, with_args, with_comment}
+use Rattle.bz_attribute.specs.Effects.{edit_first, has, with_args, with_comment}
+use Rattle.bz_attribute.specs.private.RuleNodes.{nodes_after}
 use Rattle.bz_rule.specs.Comment.{comment_attribute, comment_line}
 use Rattle.bz_attribute.specs.RowPlaces.{HasArgument, IsArgumentAt, IsRuleRow}
 use Rattle.bz_attribute.proofs.RuleNodes.{rule_nodes}
@@ -34,7 +35,7 @@ argument_at name s r ps at h arg =
     let a : Segment = arg.arg in
     let first : List RowPart = pre s r arg.front ++ map above a.before in
     let rest : List RowPart = items_parts (items_of a.nodes) ++ (segment_end ∷ (beside_part a.suffix ++ post s r arg.back)) in
-    let all : ps ≡ first ++ rest = h.are ∙ in_three s r arg.front (a ∷ []) arg.back (rule_nodes [] s.nodes r h.rule) arg.are ∙ nodes_split s r arg.front arg.back a in
+    let all : ps ≡ first ++ rest = h.are ∙ in_three s r arg.front (a ∷ []) arg.back (rule_nodes s.nodes r h.rule) arg.are ∙ nodes_split s r arg.front arg.back a in
     let begins : at ≡ length first = omega (arith, arg.begins, length-append (pre s r arg.front) (map above a.before)) in
     record {
       front = pre s r arg.front;

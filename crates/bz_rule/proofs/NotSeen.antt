@@ -7,12 +7,13 @@ use Rattle.bz_token.specs.Common.{map_or}
 use Rattle.bz_token.specs.Lexical.{is_one_of}
 use Rattle.bz_tree.specs.Tree.{Segment, Statement}
 use Rattle.bz_label.specs.Labels.{Package}
-use Rattle.bz_label.specs.declared.arguments.Attributes.TheVariants.{Every, Named}
+use Rattle.bz_label.specs.declared.arguments.Attributes.TheVariants.{Named}
 use Rattle.bz_label.specs.declared.arguments.Commented.TheVariants.{Attribute, Rule as Above, Value}
 use Rattle.bz_label.specs.declared.arguments.Moved.{Moved}
 use Rattle.bz_label.specs.declared.arguments.Setting.TheVariants.{ToKind, ToValues}
 use Rattle.bz_attribute.specs.Rules.{first_named, is_named, value}
-use Rattle.bz_attribute.specs.Lists.{edit_first_part, with_value}
+use Rattle.bz_attribute.specs.Lists.{with_value}
+use Rattle.bz_attribute.specs.ListWalk.{edit_first_part}
 use Rattle.bz_attribute.specs.Effects.{argument, chooses, done, edit_first, filtered, is_chosen, list_item, not_a_list, slot_done, unchosen, with_args}
 use Rattle.bz_attribute.specs.declared.done.Note.{Note}
 use Rattle.bz_attribute.specs.declared.done.Note.TheVariants.{AttributeExists, NoAttribute}
@@ -27,7 +28,7 @@ use Rattle.bz_rule.proofs.SealedArguments.{LeavesSealed, Overlooks, all_left, ei
 use Rattle.bz_rule.proofs.SealedStatements.{both_deleted, both_hold, comment_left, kind_left, kind_told, prints_alike, slots_left, slots_told}
 
 -- a command that does to a slot what it does to the arguments of its rule
-on_arguments : {like : Segment → Segment → Type 0} {names : List (List ℕ)} (c : Command) (home : Package) → ((slot : Option Statement) → after c home slot ≡ option_map (with_args (args_after c home)) slot)
+on_arguments : {like : List Segment → Segment → Type 0} {names : List (List ℕ)} (c : Command) (home : Package) → ((slot : Option Statement) → after c home slot ≡ option_map (with_args (args_after c home)) slot)
     → ((slot : Option Statement) → done_of c home slot ≡ slot_done (args_done c home) slot) → LeavesSealed like names (args_after c home) → Overlooks like names (args_done c home) → NotSeen like names c home
 on_arguments c home is tells leaves overlooks = record {
   told = λ count slot other h. tells slot ∙ slots_told overlooks count slot other h ∙ sym (tells other);
@@ -35,7 +36,7 @@ on_arguments c home is tells leaves overlooks = record {
 }
 
 -- a command that looks at the first argument of one of the names alone
-on_one : (like : Segment → Segment → Type 0) (names : List (List ℕ)) (c : Command) (home : Package) (attr : List ℕ) → Local c home attr → is_one_of names attr ≡ true → NotSeen like names c home
+on_one : (like : List Segment → Segment → Type 0) (names : List (List ℕ)) (c : Command) (home : Package) (attr : List ℕ) → Local c home attr → is_one_of names attr ≡ true → NotSeen like names c home
 on_one like names c home attr is h = record { told = tells; left = leaves }
   where
     tells : (count : ℕ) (slot other : Option Statement) → SlotsSealed like names count slot other → done_of c home slot ≡ done_of c home other
@@ -49,15 +50,15 @@ on_one like names c home attr is h = record { told = tells; left = leaves }
         rw (is.slot s, is.slot t) (slots_left (local_leaves like names attr (args_after c home) h is.args) count (Some s) (Some t) (both_rules are))
 
 -- where a note is seen, nothing is done
-unless_noted : {like : Segment → Segment → Type 0} {names : List (List ℕ)} {note : List Segment → Option Note} {f : List Segment → List Segment} → Overlooks like names note → LeavesSealed like names f
+unless_noted : {like : List Segment → Segment → Type 0} {names : List (List ℕ)} {note : List Segment → Option Note} {f : List Segment → List Segment} → Overlooks like names note → LeavesSealed like names f
     → LeavesSealed like names (λ args. if is_some (note args) then args else f args)
 unless_noted {like} {names} overlooks leaves = either_left (overlooks_by overlooks is_some) (all_left like names) leaves
 
-remove_unseen : (like : Segment → Segment → Type 0) (names : List (List ℕ)) (home : Package) (attr : List ℕ) → is_one_of names attr ≡ true → NotSeen like names (Remove (Named attr) []) home
+remove_unseen : (like : List Segment → Segment → Type 0) (names : List (List ℕ)) (home : Package) (attr : List ℕ) → is_one_of names attr ≡ true → NotSeen like names (Remove (Named attr) []) home
 remove_unseen like names home attr h =
     on_arguments (Remove (Named attr) []) home (λ slot. refl) (λ slot. refl) (others_left like names attr h) (overlooks_by (has_overlooks like names attr h) (λ b. done None b))
 
-rename_unseen : (like : Segment → Segment → Type 0) (names : List (List ℕ)) (home : Package) (old new : List ℕ) → is_one_of names old ≡ true → is_one_of names new ≡ true → NotSeen like names (Rename old new) home
+rename_unseen : (like : List Segment → Segment → Type 0) (names : List (List ℕ)) (home : Package) (old new : List ℕ) → is_one_of names old ≡ true → is_one_of names new ≡ true → NotSeen like names (Rename old new) home
 rename_unseen like names home old new h k =
     let note : Overlooks like names (rename_note old new) = record {
       seen = λ count xs ys are.
@@ -68,12 +69,12 @@ rename_unseen like names home old new h k =
     on_arguments (Rename old new) home (λ slot. refl) (λ slot. refl) (unless_noted note (first_left like names old h (λ a. rename_to new a ∷ []))) (overlooks_by note (λ n. done n true))
 
 -- what `move` sees: the two attributes
-record SeesBoth (like : Segment → Segment → Type 0) (names : List (List ℕ)) (home : Package) (old new : List ℕ) (chosen : Moved) : Type 0 where
+record SeesBoth (like : List Segment → Segment → Type 0) (names : List (List ℕ)) (home : Package) (old new : List ℕ) (chosen : Moved) : Type 0 where
   note : Overlooks like names (move_note old new)
   some : Overlooks like names (moves home old chosen)
   arriving : Overlooks like names (λ args. arrivals home (elements_of (first_named new args)) (filter (is_chosen home chosen) (elements_of (first_named old args))))
 
-sees_both : (like : Segment → Segment → Type 0) (names : List (List ℕ)) (home : Package) (old new : List ℕ) (chosen : Moved) → is_one_of names old ≡ true → is_one_of names new ≡ true → SeesBoth like names home old new chosen
+sees_both : (like : List Segment → Segment → Type 0) (names : List (List ℕ)) (home : Package) (old new : List ℕ) (chosen : Moved) → is_one_of names old ≡ true → is_one_of names new ≡ true → SeesBoth like names home old new chosen
 sees_both like names home old new chosen h k =
     let was = first_overlooks like names old h in
     let is = first_overlooks like names new k in
@@ -84,11 +85,11 @@ sees_both like names home old new chosen h k =
       arriving = record { seen = λ count xs ys are. λ i. arrivals home (elements_of (is.seen count xs ys are i)) (filter (is_chosen home chosen) (elements_of (was.seen count xs ys are i))) };
     }
 
-put_leaves : (like : Segment → Segment → Type 0) (names : List (List ℕ)) (new : List ℕ) → is_one_of names new ≡ true → (ss : List Segment) → LeavesSealed like names (put_in new ss)
+put_leaves : (like : List Segment → Segment → Type 0) (names : List (List ℕ)) (new : List ℕ) → is_one_of names new ≡ true → (ss : List Segment) → LeavesSealed like names (put_in new ss)
 put_leaves like names new k ss =
     either_left (has_overlooks like names new k) (first_left like names new k (λ a. with_value (edit_first_part (λ there. there ++ ss) (value a)) a ∷ [])) (more_left like names (argument new (list_item ss ∷ []) ∷ []))
 
-move_unseen : (like : Segment → Segment → Type 0) (names : List (List ℕ)) (home : Package) (old new : List ℕ) (chosen : Moved) → is_one_of names old ≡ true → is_one_of names new ≡ true → NotSeen like names (Move old new chosen) home
+move_unseen : (like : List Segment → Segment → Type 0) (names : List (List ℕ)) (home : Package) (old new : List ℕ) (chosen : Moved) → is_one_of names old ≡ true → is_one_of names new ≡ true → NotSeen like names (Move old new chosen) home
 move_unseen like names home old new chosen h k =
     let both = sees_both like names home old new chosen h k in
     let leave = first_left like names old h (filtered (unchosen home chosen)) in
@@ -109,9 +110,8 @@ abbrev Asks : List (List ℕ) → Option (List (List ℕ)) → Type 0
 Asks names None = ⊥
 Asks names (Some ns) = list_all (is_one_of names) ns ≡ true
 
-by_command : (like : Segment → Segment → Type 0) (names : List (List ℕ)) (c : Command) (home : Package) → Asks names (attributes_of c) → NotSeen like names c home
+by_command : (like : List Segment → Segment → Type 0) (names : List (List ℕ)) (c : Command) (home : Package) → Asks names (attributes_of c) → NotSeen like names c home
 by_command like names (Add attr values) home h = on_one like names (Add attr values) home attr (local _ home attr refl) (one_asked names attr h)
-by_command like names (Remove Every values) home h = absurd h
 by_command like names (Remove (Named attr) []) home h = remove_unseen like names home attr (one_asked names attr h)
 by_command like names (Remove (Named attr) (v ∷ values)) home h = on_one like names (Remove (Named attr) (v ∷ values)) home attr (local _ home attr refl) (one_asked names attr h)
 by_command like names (Set (ToKind kind)) home h = record { told = kind_told kind; left = kind_left kind }
@@ -120,13 +120,13 @@ by_command like names (SetIfAbsent attr values) home h = on_one like names (SetI
 by_command like names Delete home h = record { told = λ count slot other are. ap (done None) (both_hold count slot other are); left = both_deleted }
 by_command like names (Rename old new) home h = let two = two_asked names old new h in rename_unseen like names home old new two.0 two.1
 by_command like names (Move old new chosen) home h = let two = two_asked names old new h in move_unseen like names home old new chosen two.0 two.1
-by_command like names (Replace Every old new) home h = absurd h
 by_command like names (Replace (Named attr) old new) home h = on_one like names (Replace (Named attr) old new) home attr (local _ home attr refl) (one_asked names attr h)
 by_command like names (Comment Above text) home h = record { told = λ count slot other are. ap (done None) (both_hold count slot other are); left = comment_left text }
 by_command like names (Comment (Attribute attr) text) home h = on_one like names (Comment (Attribute attr) text) home attr (local _ home attr refl) (one_asked names attr h)
 by_command like names (Comment (Value attr word) text) home h = on_one like names (Comment (Value attr word) text) home attr (local _ home attr refl) (one_asked names attr h)
 by_command like names (Print fields) home h = record { told = prints_alike home fields h; left = λ count slot other are. are }
+by_command like names _ home h = absurd h
 
 -- a command that mentions some of the names alone
-pub not_seen : (like : Segment → Segment → Type 0) (names ns : List (List ℕ)) (c : Command) (home : Package) → attributes_of c ≡ Some ns → list_all (is_one_of names) ns ≡ true → NotSeen like names c home
+pub not_seen : (like : List Segment → Segment → Type 0) (names ns : List (List ℕ)) (c : Command) (home : Package) → attributes_of c ≡ Some ns → list_all (is_one_of names) ns ≡ true → NotSeen like names c home
 not_seen like names ns c home is asked = by_command like names c home (subst (Asks names) (sym is) asked)

@@ -1,10 +1,12 @@
 -- The list parts of a value whose list parts are edited.
-use Rattle.std.proofs.Common.{◌≡◌, List, [], ◌∷◌, ◌++◌, Bool, true, false, ◌&&◌, if◌then◌else◌, map, refl, ap, ◌∙◌}
+use Rattle.std.proofs.Common.{◌≡◌, List, [], ◌∷◌, ◌++◌, Bool, true, false, ◌&&◌, if◌then◌else◌, map, refl, ap, subst, sym, ◌∙◌}
 use Rattle.std.specs.List.{list_all}
 use Rattle.bz_tree.specs.declared.tree.GroupKind.TheVariants.{Call, RuleCall, Load, Paren, List as ListKind, Index, Dict, ListComp, DictComp}
 use Rattle.bz_tree.specs.Tree.{Item, leaf, group, Segs, Segment, segs_of, segments}
 use Rattle.bz_attribute.specs.Rules.{elements}
-use Rattle.bz_attribute.specs.Lists.{edit_list, edit_from, edit_parts, edit_one_from, edit_first_part, ends, is_joint, is_list, is_part, is_plus, parts, parts_from}
+use Rattle.bz_attribute.specs.Lists.{edit_parts, is_joint, is_plus, parts}
+use Rattle.bz_attribute.specs.ListWalk.{is_list, edit_list, edit_from, edit_one_from, edit_first_part, ends, is_part, parts_from}
+use Rattle.bz_attribute.proofs.ListPieces.{edit_first_part_is, edit_parts_are, parts_are, walked_parts}
 use Rattle.bz_attribute.proofs.Views.{segments_of}
 use Rattle.bz_tree.proofs.Rows.FromParts.{segs_back}
 
@@ -70,8 +72,10 @@ parts_edited_from f start (x ∷ xs) =
 -- each list part edited: the lists are
 pub parts_edited : (f : List Segment → List Segment) (nodes : List Item) → parts (edit_parts f nodes) ≡ map f (parts nodes)
 parts_edited f nodes =
-    elim (list_all is_joint nodes) as (λ b. list_all is_joint nodes ≡ b → parts (if b then edit_from f true nodes else nodes) ≡ map f (if b then parts_from true nodes else []))
+    ap parts (edit_parts_are f nodes) ∙ parts_are (if list_all is_joint nodes then edit_from f true nodes else nodes)
+    ∙ elim (list_all is_joint nodes) as (λ b. list_all is_joint nodes ≡ b → walked_parts (if b then edit_from f true nodes else nodes) ≡ map f (if b then parts_from true nodes else []))
     [ true ↦ λ e. rw (joints_edited f true nodes, e) (parts_edited_from f true nodes) | false ↦ λ e. rw e refl ] refl
+    ∙ ap (map f) (sym (parts_are nodes))
 
 -- the first of some lists edited
 abbrev pub edit_head : (List Segment → List Segment) → List (List Segment) → List (List Segment)
@@ -106,8 +110,10 @@ parts_one_from f start (x ∷ xs) =
 -- the first list part edited: the first list is
 pub parts_first_edited : (f : List Segment → List Segment) (nodes : List Item) → parts (edit_first_part f nodes) ≡ edit_head f (parts nodes)
 parts_first_edited f nodes =
-    elim (list_all is_joint nodes) as (λ b. list_all is_joint nodes ≡ b → parts (if b then edit_one_from f true nodes else nodes) ≡ edit_head f (if b then parts_from true nodes else []))
+    ap parts (edit_first_part_is f nodes) ∙ parts_are (if list_all is_joint nodes then edit_one_from f true nodes else nodes)
+    ∙ elim (list_all is_joint nodes) as (λ b. list_all is_joint nodes ≡ b → walked_parts (if b then edit_one_from f true nodes else nodes) ≡ edit_head f (if b then parts_from true nodes else []))
     [ true ↦ λ e. rw (joints_one f true nodes, e) (parts_one_from f true nodes) | false ↦ λ e. rw e refl ] refl
+    ∙ ap (edit_head f) (sym (parts_are nodes))
 
 parts_stay_from : (f : List Segment → List Segment) (start : Bool) (xs : List Item) → map f (parts_from start xs) ≡ parts_from start xs → edit_from f start xs ≡ xs
 parts_stay_from f start [] h = refl
@@ -123,8 +129,9 @@ parts_stay_from f start (x ∷ xs) h =
 -- where the lists stay, so does the value
 pub parts_stay : (f : List Segment → List Segment) (nodes : List Item) → map f (parts nodes) ≡ parts nodes → edit_parts f nodes ≡ nodes
 parts_stay f nodes h =
-    elim (list_all is_joint nodes) as (λ b. map f (if b then parts_from true nodes else []) ≡ (if b then parts_from true nodes else []) → (if b then edit_from f true nodes else nodes) ≡ nodes)
-    [ true ↦ λ k. parts_stay_from f true nodes k | false ↦ λ k. refl ] h
+    edit_parts_are f nodes
+    ∙ elim (list_all is_joint nodes) as (λ b. map f (if b then parts_from true nodes else []) ≡ (if b then parts_from true nodes else []) → (if b then edit_from f true nodes else nodes) ≡ nodes)
+    [ true ↦ λ k. parts_stay_from f true nodes k | false ↦ λ k. refl ] (subst (λ (lists : List (List Segment)). map f lists ≡ lists) (parts_are nodes) h)
 
 first_stays_from : (f : List Segment → List Segment) (start : Bool) (xs : List Item) → edit_head f (parts_from start xs) ≡ parts_from start xs → edit_one_from f start xs ≡ xs
 first_stays_from f start [] h = refl
@@ -137,5 +144,6 @@ first_stays_from f start (x ∷ xs) h =
 -- where the first list stays, so does the value
 pub first_part_stays : (f : List Segment → List Segment) (nodes : List Item) → edit_head f (parts nodes) ≡ parts nodes → edit_first_part f nodes ≡ nodes
 first_part_stays f nodes h =
-    elim (list_all is_joint nodes) as (λ b. edit_head f (if b then parts_from true nodes else []) ≡ (if b then parts_from true nodes else []) → (if b then edit_one_from f true nodes else nodes) ≡ nodes)
-    [ true ↦ λ k. first_stays_from f true nodes k | false ↦ λ k. refl ] h
+    edit_first_part_is f nodes
+    ∙ elim (list_all is_joint nodes) as (λ b. edit_head f (if b then parts_from true nodes else []) ≡ (if b then parts_from true nodes else []) → (if b then edit_one_from f true nodes else nodes) ≡ nodes)
+    [ true ↦ λ k. first_stays_from f true nodes k | false ↦ λ k. refl ] (subst (λ (lists : List (List Segment)). edit_head f lists ≡ lists) (parts_are nodes) h)

@@ -3,7 +3,7 @@ use Rattle.std.proofs.Common.{◌≡◌, ℕ, suc, ◌+◌, ◌<◌, List, [], �
 use Rattle.std.specs.Option.{option_or}
 use Rattle.bz_tree.specs.Tree.{Segment, Statement}
 use Rattle.bz_label.specs.Labels.{Package}
-use Rattle.bz_label.specs.declared.arguments.Field.{Field}
+use Rattle.bz_rule.specs.declared.commands.field.Field.{Field}
 use Rattle.bz_attribute.specs.Rules.{Rule, string_value}
 use Rattle.bz_token.specs.Common.{map_or}
 use Rattle.bz_rule.specs.Print.{missing, field_text, field_name, word_form}

@@ -1,19 +1,19 @@
 -- What is printed of the head and the parts of a rule is what is printed of it.
 use Rattle.std.proofs.Common.{◌≡◌, ℕ, List, [], ◌∷◌, ◌++◌, ◌<◌, ◌≤◌, false, Option, Some, None, option_map, is_some, length, refl, sym, ◌∙◌, ap, arith, append_assoc, if◌then◌else◌}
-use Rattle.std.specs.Prelude.{codes}
+use Rattle.std.specs.Prelude.{codes, option_and_then}
 use Rattle.bz_tree.specs.Tree.{Segment, Statement}
 use Rattle.bz_tree.specs.Rows.{RowPart}
 use Rattle.bz_label.specs.Labels.{Package}
-use Rattle.bz_label.specs.declared.arguments.Field.{Field}
-use Rattle.bz_label.specs.declared.arguments.Field.TheVariants.{ValueOf}
-use Rattle.bz_attribute.specs.Rules.{Rule, rule_of, kind_text, first_named, value}
+use Rattle.bz_rule.specs.declared.commands.field.Field.{Field}
+use Rattle.bz_rule.specs.declared.commands.field.Field.TheVariants.{ValueOf}
+use Rattle.bz_attribute.specs.Rules.{Rule, rule_of, kind_text, name_in, first_named, string_value, value}
 use Rattle.bz_attribute.specs.RowPlaces.{IsRuleRow}
 use Rattle.bz_attribute.specs.Heads.{IsHeadOf}
 use Rattle.bz_attribute.specs.declared.head.Head.{Head}
 use Rattle.bz_attribute.specs.declared.done.Done.{Done}
 use Rattle.bz_attribute.specs.declared.done.Note.{Note}
 use Rattle.bz_attribute.specs.declared.done.Note.TheVariants.{Missing}
-use Rattle.bz_rule.specs.Print.{field_name, fields_of, line_of, prints, value_text, printed}
+use Rattle.bz_rule.specs.Print.{field_name, fields_of, line_of, list_text, prints, value_text, word_form, printed}
 use Rattle.bz_rule.specs.private.PrintSteps.{HasPrinted, IsRuleOf}
 use Rattle.bz_attribute.specs.Effects.{done}
 use Rattle.bz_token.specs.Common.{map_or}
@@ -44,6 +44,23 @@ one_value home attr head ps old new has = record {
   line = λ s r h. let it = has s r h.row in it.2 ∙ ap (λ (t : Option (List ℕ)). old ++ map_or (codes "(missing)") (λ text. text) t) (sym it.1);
   note = λ s r h. ap (note_of (ValueOf attr)) (sym (has s r h.row).1);
 }
+
+-- the name, which the head has
+pub named_value : (home : Package) (attr : List ℕ) (head : Head) (ps : List RowPart) (old new name : List ℕ) → option_map (λ text. text.now) head.name ≡ Some name → attr ≡ codes "name" → new ≡ old ++ word_form name
+    → HasPrinted home (ValueOf attr ∷ []) head ps old new None
+named_value home attr head ps old new name named is written = record {
+  line = λ s r h. written ∙ ap (λ (t : Option (List ℕ)). old ++ map_or (codes "(missing)") (λ text. text) t) (sym (told s r h));
+  note = λ s r h. ap (note_of (ValueOf attr)) (sym (told s r h));
+}
+  where
+    first : (o : Option Segment) → option_and_then (λ a. string_value (value a)) o ≡ Some name → option_map (λ (a : Segment). value_text (value a)) o ≡ Some (word_form name)
+    first None e = absurd cc
+    first (Some a) e = ap (λ (v : Option (List ℕ)). Some (map_or (list_text (value a)) word_form v)) e
+
+    told : (s : Statement) (r : Rule) → IsRuleOf head ps s r → option_map (λ (a : Segment). value_text (value a)) (first_named attr r.args) ≡ Some (word_form name)
+    told s r h =
+        ap (λ (n : List ℕ). option_map (λ (a : Segment). value_text (value a)) (first_named n r.args)) is
+        ∙ first (first_named (codes "name") r.args) (ap (λ (z : Rule). name_in z.args) (same_rule (rule_of s.nodes) r h.head.rule h.row.rule h.head.is) ∙ sym h.head.name_is ∙ named)
 
 -- the name and the kind
 pub name_and_kind : (home : Package) (head : Head) (ps : List RowPart) (old mid new : List ℕ) (told : Option Note) → HasPrinted home (ValueOf (codes "name") ∷ []) head ps old mid told

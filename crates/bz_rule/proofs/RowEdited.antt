@@ -12,7 +12,8 @@ use Rattle.bz_label.specs.declared.arguments.Setting.TheVariants.{ToKind}
 use Rattle.bz_rule.specs.Comment.{comment_line, comment_rule}
 use Rattle.bz_attribute.specs.Rules.{Rule, rule_of, kind_text}
 use Rattle.bz_attribute.specs.Effects.{done, holds_rule, nodes_of, with_args}
-use Rattle.bz_rule.specs.Set.{kind_after, kind_items, with_kind}
+use Rattle.bz_rule.specs.Set.{kind_items, with_kind}
+use Rattle.bz_rule.specs.private.Steps.{kind_after}
 use Rattle.bz_rule.specs.Commands.{Command, after, args_after, args_done, done_of}
 use Rattle.bz_rule.specs.declared.command.Action.TheVariants.{Comment, Delete, Print, Set}
 use Rattle.bz_attribute.specs.RowEdits.{IsRowEdit, IsWithin, replaced_at}
@@ -112,12 +113,6 @@ arguments_edited c home kind ps new e edits edit = record {
   parts = λ s r h was changed. edit.parts s r h changed ∙ ap parts_of (sym (args_rule c home s edits));
   done = λ s r h was. edit.done s r h ∙ args_told c home s r edits h.rule;
 }
-
--- a comment more above the rule
-pub one_above : (text : List ℕ) (home : Package) (s : Statement) (r : Rule) → rule_of s.nodes ≡ Some r → length s.before + 1 ≤ length (rule_after (Comment Above text) home s).before
-one_above text home s r is =
-    let more : length (map_or s.before (λ r. s.before ++ comment_line text ∷ []) (rule_of s.nodes)) ≡ length s.before + 1 = ap (λ (o : Option Rule). length (map_or s.before (λ r. s.before ++ comment_line text ∷ []) o)) is ∙ length-append s.before (comment_line text ∷ []) in
-    omega (arith, more)
 
 pub none_above : (c : Command) (home : Package) (s : Statement) (r : Rule) → rule_of s.nodes ≡ Some r → length s.before + 0 ≤ length (rule_after c home s).before
 none_above c home s r is = let next = next_of c home s r (parts_of (rule_after c home s)) is refl in omega (arith, next.before)

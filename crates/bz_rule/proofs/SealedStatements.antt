@@ -1,6 +1,6 @@
 -- Statements and slots with sealed arguments: what a command does to a rule, and what is seen of it.
 use Rattle.std.proofs.Common.{◌≡◌, ℕ, List, [], ◌∷◌, ◌++◌, true, false, not, if◌then◌else◌, Option, Some, None, is_some, option_map, map, codes, refl, ap, sym, ◌∙◌}
-use Rattle.std.specs.Prelude.{bytes_eq}
+use Rattle.std.specs.Prelude.{bytes_eq, option_and_then, unwrap_or}
 use Rattle.std.specs.List.{flat_map, join_with_byte, list_all}
 use Rattle.std.proofs.lemmas.Bool.{and_parts}
 use Rattle.std.proofs.lemmas.List.Folds.{list_all-append}
@@ -8,25 +8,26 @@ use Rattle.bz_token.specs.Common.{map_or}
 use Rattle.bz_token.specs.Lexical.{is_one_of}
 use Rattle.bz_tree.specs.Tree.{Item, Segment, Statement}
 use Rattle.bz_label.specs.Labels.{All, Kind as OfKind, Line, Name, Package, Pkg, Target}
-use Rattle.bz_label.specs.declared.arguments.Field.{Field}
-use Rattle.bz_label.specs.declared.arguments.Field.TheVariants.{Label, ValueOf}
+use Rattle.bz_rule.specs.declared.commands.field.Field.{Field}
+use Rattle.bz_rule.specs.declared.commands.field.Field.TheVariants.{Label, ValueOf}
 use Rattle.bz_attribute.specs.Rules.{Rule, is_text, kind_text, name_in, rule_of, string_value, value}
-use Rattle.bz_attribute.specs.Texts.{home_text, shown_text}
+use Rattle.bz_attribute.specs.Texts.{home_text}
 use Rattle.bz_attribute.specs.Marks.{marks, marks_rule}
-use Rattle.bz_attribute.specs.Effects.{done, holds_rule, nodes_after, nodes_of, slot_done, with_args}
+use Rattle.bz_attribute.specs.Effects.{done, holds_rule, nodes_of, slot_done, with_args}
+use Rattle.bz_attribute.specs.private.RuleNodes.{nodes_after}
 use Rattle.bz_attribute.specs.declared.done.Done.{Done}
 use Rattle.bz_attribute.specs.declared.done.Note.TheVariants.{Missing}
 use Rattle.bz_attribute.proofs.EditedRules.{nodes_read, rule_after, rule_with}
 use Rattle.bz_rule.specs.Comment.{comment_line, comment_rule}
 use Rattle.bz_rule.specs.Print.{field_name, field_text, fields_of, missing, printed, prints, value_text}
-use Rattle.bz_rule.specs.Set.{kind_after, kind_items, sets_kind_of, with_kind}
+use Rattle.bz_rule.specs.Set.{kind_items, sets_kind_of, with_kind}
+use Rattle.bz_rule.specs.private.Steps.{kind_after}
 use Rattle.bz_rule.specs.Sealed.{AreShownAlike, IsSealed, SlotsSealed, attributes_printed, both_empty, both_rules}
 use Rattle.bz_rule.proofs.RuleClass.{kind_dotted}
 use Rattle.bz_rule.proofs.SealedArguments.{LeavesSealed, Overlooks, first_overlooks, overlooks_by}
-use Rattle.std.specs.Prelude.{option_and_then, unwrap_or}
 
 -- an edit of arguments
-edited_sealed : {like : Segment → Segment → Type 0} {names : List (List ℕ)} {f : List Segment → List Segment} → LeavesSealed like names f → (count : ℕ) (s t : Statement) → IsSealed like names count s t
+edited_sealed : {like : List Segment → Segment → Type 0} {names : List (List ℕ)} {f : List Segment → List Segment} → LeavesSealed like names f → (count : ℕ) (s t : Statement) → IsSealed like names count s t
     → IsSealed like names count (with_args f s) (with_args f t)
 edited_sealed {f} leaves count s t h = record {
   rule = rule_with f h.rule;
@@ -37,12 +38,12 @@ edited_sealed {f} leaves count s t h = record {
   rest = ap (λ (z : Statement). record z { nodes = nodes_after f t.nodes (rule_of t.nodes) }) h.rest;
 }
 
-pub slots_left : {like : Segment → Segment → Type 0} {names : List (List ℕ)} {f : List Segment → List Segment} → LeavesSealed like names f → (count : ℕ) (slot other : Option Statement) → SlotsSealed like names count slot other
+pub slots_left : {like : List Segment → Segment → Type 0} {names : List (List ℕ)} {f : List Segment → List Segment} → LeavesSealed like names f → (count : ℕ) (slot other : Option Statement) → SlotsSealed like names count slot other
     → SlotsSealed like names count (option_map (with_args f) slot) (option_map (with_args f) other)
 slots_left leaves count _ _ both_empty = both_empty
 slots_left leaves count _ _ (both_rules {s} {t} h) = both_rules (edited_sealed leaves count s t h)
 
-pub slots_told : {like : Segment → Segment → Type 0} {names : List (List ℕ)} {f : List Segment → Done} → Overlooks like names f → (count : ℕ) (slot other : Option Statement) → SlotsSealed like names count slot other
+pub slots_told : {like : List Segment → Segment → Type 0} {names : List (List ℕ)} {f : List Segment → Done} → Overlooks like names f → (count : ℕ) (slot other : Option Statement) → SlotsSealed like names count slot other
     → slot_done f slot ≡ slot_done f other
 slots_told overlooks count _ _ both_empty = refl
 slots_told {f} overlooks count _ _ (both_rules {s} {t} h) =
@@ -50,11 +51,11 @@ slots_told {f} overlooks count _ _ (both_rules {s} {t} h) =
     ap told h.read ∙ overlooks.seen count h.rule.args h.args h.are_sealed ∙ ap told (sym h.read_sealed)
 
 -- `delete`
-pub both_hold : {like : Segment → Segment → Type 0} {names : List (List ℕ)} (count : ℕ) (slot other : Option Statement) → SlotsSealed like names count slot other → holds_rule slot ≡ holds_rule other
+pub both_hold : {like : List Segment → Segment → Type 0} {names : List (List ℕ)} (count : ℕ) (slot other : Option Statement) → SlotsSealed like names count slot other → holds_rule slot ≡ holds_rule other
 both_hold count _ _ both_empty = refl
 both_hold count _ _ (both_rules h) = ap is_some h.read ∙ ap is_some (sym h.read_sealed)
 
-pub both_deleted : {like : Segment → Segment → Type 0} {names : List (List ℕ)} (count : ℕ) (slot other : Option Statement) → SlotsSealed like names count slot other
+pub both_deleted : {like : List Segment → Segment → Type 0} {names : List (List ℕ)} (count : ℕ) (slot other : Option Statement) → SlotsSealed like names count slot other
     → SlotsSealed like names count (if holds_rule slot then None else slot) (if holds_rule other then None else other)
 both_deleted count _ _ both_empty = both_empty
 both_deleted count _ _ (both_rules {s} {t} h) =
@@ -74,7 +75,7 @@ kind_read kind nodes r h =
       | false ↦ nodes_read (record r { kind = kind_items kind }) (kind_dotted kind)
     ]
 
-kind_sealed : {like : Segment → Segment → Type 0} {names : List (List ℕ)} (kind : List ℕ) (count : ℕ) (s t : Statement) → IsSealed like names count s t → IsSealed like names count (with_kind kind s) (with_kind kind t)
+kind_sealed : {like : List Segment → Segment → Type 0} {names : List (List ℕ)} (kind : List ℕ) (count : ℕ) (s t : Statement) → IsSealed like names count s t → IsSealed like names count (with_kind kind s) (with_kind kind t)
 kind_sealed kind count s t h = record {
   rule = of_kind kind h.rule;
   args = h.args;
@@ -84,12 +85,12 @@ kind_sealed kind count s t h = record {
   rest = ap (λ (z : Statement). record z { nodes = kind_after kind t.nodes (rule_of t.nodes) }) h.rest;
 }
 
-pub kind_left : {like : Segment → Segment → Type 0} {names : List (List ℕ)} (kind : List ℕ) (count : ℕ) (slot other : Option Statement) → SlotsSealed like names count slot other
+pub kind_left : {like : List Segment → Segment → Type 0} {names : List (List ℕ)} (kind : List ℕ) (count : ℕ) (slot other : Option Statement) → SlotsSealed like names count slot other
     → SlotsSealed like names count (option_map (with_kind kind) slot) (option_map (with_kind kind) other)
 kind_left kind count _ _ both_empty = both_empty
 kind_left kind count _ _ (both_rules {s} {t} h) = both_rules (kind_sealed kind count s t h)
 
-pub kind_told : {like : Segment → Segment → Type 0} {names : List (List ℕ)} (kind : List ℕ) (count : ℕ) (slot other : Option Statement) → SlotsSealed like names count slot other → sets_kind_of kind slot ≡ sets_kind_of kind other
+pub kind_told : {like : List Segment → Segment → Type 0} {names : List (List ℕ)} (kind : List ℕ) (count : ℕ) (slot other : Option Statement) → SlotsSealed like names count slot other → sets_kind_of kind slot ≡ sets_kind_of kind other
 kind_told kind count _ _ both_empty = refl
 kind_told kind count _ _ (both_rules {s} {t} h) =
     let told : Option Rule → Done = map_or (done None false) (λ r. done None (not (bytes_eq (kind_text r.kind) kind))) in
@@ -99,7 +100,7 @@ kind_told kind count _ _ (both_rules {s} {t} h) =
 line_more : (text : List ℕ) (s : Statement) (r : Rule) → rule_of s.nodes ≡ Some r → comment_rule text s ≡ record s { before = s.before ++ comment_line text ∷ [] }
 line_more text s r h = ap (λ (o : Option Rule). record s { before = map_or s.before (λ r. s.before ++ comment_line text ∷ []) o }) h
 
-comment_sealed : {like : Segment → Segment → Type 0} {names : List (List ℕ)} (text : List ℕ) (count : ℕ) (s t : Statement) → IsSealed like names count s t → IsSealed like names count (comment_rule text s) (comment_rule text t)
+comment_sealed : {like : List Segment → Segment → Type 0} {names : List (List ℕ)} (text : List ℕ) (count : ℕ) (s t : Statement) → IsSealed like names count s t → IsSealed like names count (comment_rule text s) (comment_rule text t)
 comment_sealed text count s t h = record {
   rule = h.rule;
   args = h.args;
@@ -111,17 +112,17 @@ comment_sealed text count s t h = record {
       ∙ ap (λ (z : Statement). record z { nodes = t.nodes }) (sym (line_more text s h.rule h.read));
 }
 
-pub comment_left : {like : Segment → Segment → Type 0} {names : List (List ℕ)} (text : List ℕ) (count : ℕ) (slot other : Option Statement) → SlotsSealed like names count slot other
+pub comment_left : {like : List Segment → Segment → Type 0} {names : List (List ℕ)} (text : List ℕ) (count : ℕ) (slot other : Option Statement) → SlotsSealed like names count slot other
     → SlotsSealed like names count (option_map (comment_rule text) slot) (option_map (comment_rule text) other)
 comment_left text count _ _ both_empty = both_empty
 comment_left text count _ _ (both_rules {s} {t} h) = both_rules (comment_sealed text count s t h)
 
 -- the name
-name_overlooks : (like : Segment → Segment → Type 0) (names : List (List ℕ)) → is_one_of names (codes "name") ≡ true → Overlooks like names name_in
+name_overlooks : (like : List Segment → Segment → Type 0) (names : List (List ℕ)) → is_one_of names (codes "name") ≡ true → Overlooks like names name_in
 name_overlooks like names h = overlooks_by (first_overlooks like names (codes "name") h) (option_and_then (λ a. string_value (value a)))
 
 -- `print`: the field is one that is asked for
-field_alike : {like : Segment → Segment → Type 0} {names : List (List ℕ)} (home : Package) (count : ℕ) (s t : Statement) (h : IsSealed like names count s t) (field : Field)
+field_alike : {like : List Segment → Segment → Type 0} {names : List (List ℕ)} (home : Package) (count : ℕ) (s t : Statement) (h : IsSealed like names count s t) (field : Field)
     → list_all (is_one_of names) (attributes_printed field) ≡ true → field_text home s h.rule field ≡ field_text home t (record h.rule { args = h.args }) field
 field_alike {like} {names} home count s t h Label asked =
     ap (option_map (λ (name : List ℕ). home_text home ++ name)) ((name_overlooks like names (and_parts _ true asked).0).seen count h.rule.args h.args h.are_sealed)
@@ -137,7 +138,7 @@ fields_parted : (names : List (List ℕ)) (field : Field) (fields : List Field) 
 fields_parted names field fields h =
     and_parts _ _ (sym (list_all-append (is_one_of names) (attributes_printed field) (flat_map attributes_printed fields)) ∙ h)
 
-texts_alike : {like : Segment → Segment → Type 0} {names : List (List ℕ)} (home : Package) (count : ℕ) (s t : Statement) (h : IsSealed like names count s t) (fields : List Field)
+texts_alike : {like : List Segment → Segment → Type 0} {names : List (List ℕ)} (home : Package) (count : ℕ) (s t : Statement) (h : IsSealed like names count s t) (fields : List Field)
     → list_all (is_one_of names) (flat_map attributes_printed fields) ≡ true
     → map (λ field. text_or_missing (field_text home s h.rule field)) fields ≡ map (λ field. text_or_missing (field_text home t (record h.rule { args = h.args }) field)) fields
 texts_alike home count s t h [] asked = refl
@@ -147,7 +148,7 @@ texts_alike {names} home count s t h (field ∷ fields) asked =
     let more = texts_alike home count s t h fields two.1 in
     λ i. text_or_missing (first i) ∷ more i
 
-missing_alike : {like : Segment → Segment → Type 0} {names : List (List ℕ)} (home : Package) (count : ℕ) (s t : Statement) (h : IsSealed like names count s t) (fields : List Field)
+missing_alike : {like : List Segment → Segment → Type 0} {names : List (List ℕ)} (home : Package) (count : ℕ) (s t : Statement) (h : IsSealed like names count s t) (fields : List Field)
     → list_all (is_one_of names) (flat_map attributes_printed fields) ≡ true → missing home s h.rule fields ≡ missing home t (record h.rule { args = h.args }) fields
 missing_alike home count s t h [] asked = refl
 missing_alike {names} home count s t h (field ∷ fields) asked =
@@ -156,7 +157,7 @@ missing_alike {names} home count s t h (field ∷ fields) asked =
     let more = missing_alike home count s t h fields two.1 in
     λ i. if is_some (first i) then more i else Some (Missing (field_name field))
 
-pub prints_alike : {like : Segment → Segment → Type 0} {names : List (List ℕ)} (home : Package) (fields : List Field) → list_all (is_one_of names) (flat_map attributes_printed (fields_of fields)) ≡ true
+pub prints_alike : {like : List Segment → Segment → Type 0} {names : List (List ℕ)} (home : Package) (fields : List Field) → list_all (is_one_of names) (flat_map attributes_printed (fields_of fields)) ≡ true
     → (count : ℕ) (slot other : Option Statement) → SlotsSealed like names count slot other → prints home fields slot ≡ prints home fields other
 prints_alike home fields asked count _ _ both_empty = refl
 prints_alike home fields asked count _ _ (both_rules {s} {t} h) =
@@ -166,7 +167,7 @@ prints_alike home fields asked count _ _ (both_rules {s} {t} h) =
     ap (told s) h.read ∙ (λ i. record { changed = false; line = Some (join_with_byte 32 (texts i)); note = first i }) ∙ ap (told t) (sym h.read_sealed)
 
 -- targets, and what is shown
-marked_alike : {like : Segment → Segment → Type 0} {names : List (List ℕ)} → is_one_of names (codes "name") ≡ true → (count : ℕ) (s t : Statement) (h : IsSealed like names count s t) (target : Target)
+marked_alike : {like : List Segment → Segment → Type 0} {names : List (List ℕ)} → is_one_of names (codes "name") ≡ true → (count : ℕ) (s t : Statement) (h : IsSealed like names count s t) (target : Target)
     → marks_rule target s.start h.rule ≡ marks_rule target t.start (record h.rule { args = h.args })
 marked_alike {like} {names} asked count s t h (Name name) = ap (is_text name) ((name_overlooks like names asked).seen count h.rule.args h.args h.are_sealed)
 marked_alike asked count s t h Pkg = refl
@@ -174,7 +175,7 @@ marked_alike asked count s t h All = refl
 marked_alike asked count s t h (OfKind kind) = refl
 marked_alike asked count s t h (Line line) = ap (λ (z : Statement). marks_rule (Line line) z.start h.rule) (sym h.rest)
 
-pub shown_alike : (like : Segment → Segment → Type 0) (names : List (List ℕ)) → is_one_of names (codes "name") ≡ true → (count : ℕ) (s t : Statement) → IsSealed like names count s t → AreShownAlike s t
+pub shown_alike : (like : List Segment → Segment → Type 0) (names : List (List ℕ)) → is_one_of names (codes "name") ≡ true → (count : ℕ) (s t : Statement) → IsSealed like names count s t → AreShownAlike s t
 shown_alike like names asked count s t h =
     let named : name_in h.rule.args ≡ name_in h.args = (name_overlooks like names asked).seen count h.rule.args h.args h.are_sealed in
     record {
@@ -186,14 +187,3 @@ shown_alike like names asked count s t h =
           let name : Option Rule → Option (List ℕ) = map_or None (λ r. name_in r.args) in
           ap name h.read ∙ named ∙ ap name (sym h.read_sealed);
     }
-
--- the same of slots, as passes see them
-pub slots_marked : (like : Segment → Segment → Type 0) (names : List (List ℕ)) → is_one_of names (codes "name") ≡ true → (target : Target) (count : ℕ) (slot other : Option Statement) → SlotsSealed like names count slot other
-    → map_or false (marks target) slot ≡ map_or false (marks target) other
-slots_marked like names asked target count _ _ both_empty = refl
-slots_marked like names asked target count _ _ (both_rules {s} {t} h) = (shown_alike like names asked count s t h).marked target
-
-pub slots_shown : (like : Segment → Segment → Type 0) (names : List (List ℕ)) → is_one_of names (codes "name") ≡ true → (home : Package) (count : ℕ) (slot other : Option Statement) → SlotsSealed like names count slot other
-    → map_or [] (shown_text home) slot ≡ map_or [] (shown_text home) other
-slots_shown like names asked home count _ _ both_empty = refl
-slots_shown like names asked home count _ _ (both_rules {s} {t} h) = (shown_alike like names asked count s t h).shown home

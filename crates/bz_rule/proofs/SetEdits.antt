@@ -5,7 +5,7 @@ use Rattle.bz_tree.specs.Tree.{Item, Segment, Statement, items_of, segs_of}
 use Rattle.bz_tree.specs.Rows.{RowPart, items_parts, parts_of, segment_end, segs_parts}
 use Rattle.bz_attribute.specs.Effects.{argument, done, edit_first, has, with_args}
 use Rattle.bz_attribute.specs.Elements.{IsValueAt, OnlyList}
-use Rattle.bz_attribute.specs.Lists.{with_value, is_list, is_only}
+use Rattle.bz_attribute.specs.Lists.{with_value, only_list}
 use Rattle.bz_attribute.specs.RowEdits.{replaced_at}
 use Rattle.bz_attribute.specs.RowPlaces.{IsLocal, IsPlaceOf, IsRuleRow, alone}
 use Rattle.bz_attribute.specs.Rules.{Rule, first_named, is_named, rule_of, value}
@@ -41,12 +41,12 @@ pub none_told : (attr : List ℕ) (words : List (List ℕ)) (args : List Segment
 none_told attr words args none = rw (none_first attr args none) refl
 
 -- what was tested of the value that is there
-list_known : (nodes : List Item) (after ps : List RowPart) (o : Option ℕ) → OnlyList nodes after ps o → is_only is_list nodes ≡ is_some o
+list_known : (nodes : List Item) (after ps : List RowPart) (o : Option ℕ) → OnlyList nodes after ps o → is_some (only_list nodes) ≡ is_some o
 list_known nodes after ps None only = only
-list_known nodes after ps (Some to) only = ap (is_only is_list) only.are
+list_known nodes after ps (Some to) only = ap (λ (ns : List Item). is_some (only_list ns)) only.are
 
 pub new_known : (attr : List ℕ) (words : List (List ℕ)) (a : Segment) (after ps : List RowPart) (o : Option ℕ) (b : Bool) (new : New) → OnlyList (value a) after ps o → b ≡ is_some o
-    → ((was : Option Segment) → map_or false (λ a. is_only is_list (value a)) was ≡ b → new ≡ new_of attr words was) → new ≡ new_of attr words (Some a)
+    → ((was : Option Segment) → map_or false (λ a. is_some (only_list (value a))) was ≡ b → new ≡ new_of attr words was) → new ≡ new_of attr words (Some a)
 new_known attr words a after ps o b new only is told = told (Some a) (list_known (value a) after ps o only ∙ sym is)
 
 pub set_told : (attr : List ℕ) (words : List (List ℕ)) (args : List Segment) (a : Segment) (new : New) (b : Bool) → first_named attr args ≡ Some a → new ≡ new_of attr words (Some a) → b ≡ is_value new (value a)

@@ -1,13 +1,13 @@
 -- What `add` does (buildozer README, edit commands; which values are left out is this project's own rule).
--- Begin with `add` and `adds`.
+-- Begin with `add`.
 use Rattle.std.specs.Prelude.{ℕ, List, [], ◌∷◌, ◌++◌, Bool, true, ◌||◌, not, if◌then◌else◌, Option, map}
 use Rattle.std.specs.List.{list_any}
 use Rattle.bz_tree.specs.Tree.{Segment}
 use Rattle.bz_label.specs.Labels.{Package}
 use Rattle.bz_label.specs.declared.arguments.Moved.TheVariants.{Values}
 use Rattle.bz_attribute.specs.Rules.{is_named, value}
-use Rattle.bz_attribute.specs.Lists.{with_value, parts, edit_first_part, same}
-use Rattle.bz_attribute.specs.Effects.{has, edit_first, is_chosen, string, list_item, argument}
+use Rattle.bz_attribute.specs.Lists.{with_value, parts, same}
+use Rattle.bz_attribute.specs.Effects.{has, edit_first, edit_part, is_chosen, string, list_item, argument}
 use Rattle.bz_token.specs.Common.{is_empty, map_or}
 
 -- `add <attr> <v>..`: the values that no element of a list part equals and no earlier value is the same as
@@ -23,12 +23,13 @@ new_elements home lists values = map string (fresh home lists [] values)
 
 -- they go to the end of the first list part
 abbrev pub with_added : Package → List (List ℕ) → Segment → Segment
-with_added home values a = if is_empty (parts (value a)) then a else with_value (edit_first_part (λ ss. ss ++ new_elements home (parts (value a)) values) (value a)) a
+with_added home values a = if is_empty (parts (value a)) then a else with_value (edit_part (λ ss. true) (λ ss. ss ++ new_elements home (parts (value a)) values) (value a)) a
 
 abbrev pub add : Package → List ℕ → List (List ℕ) → List Segment → List Segment
 add home attr values args =
     if has attr args then edit_first (is_named attr) (λ a. with_added home values a ∷ []) args
     else args ++ argument attr (list_item (new_elements home [] values) ∷ []) ∷ []
 
+-- whether it changes something
 abbrev pub adds : Package → List (List ℕ) → Option Segment → Bool
 adds home values arg = map_or true (λ a. not (is_empty (new_elements home (parts (value a)) values))) arg

@@ -3,7 +3,7 @@ use Rattle.std.specs.Prelude.{ℕ, List, [], ◌∷◌, true, None}
 use Rattle.bz_tree.specs.declared.tree.GroupKind.TheVariants.{RuleCall}
 use Rattle.bz_tree.specs.Tree.{Segment, segs_of}
 use Rattle.bz_layout.specs.declared.broken.Style.TheVariants.{Broken}
-use Rattle.bz_layout.specs.Layout.{broken_segs}
+use Rattle.bz_layout.specs.Walked.{broken_segs}
 use Rattle.bz_layout.specs.Pieces.{bytes_of}
 use Rattle.bz_attribute.specs.Effects.{argument}
 use Rattle.bz_rule.specs.Set.{new_of, new_value}

@@ -1,10 +1,11 @@
 -- The ten commands: how their words are read (buildozer README, edit commands; the refusals are this project's own rule),
 -- a test of their words; the statement after each, and what it tells.
--- Begin with `after` and `done_of`.
+-- Begin with `after` and `note_of`.
+-- `run` reaches `Command`, `is_print`, and what stands from `args_after` to `printed_line`.
 -- In no stop, since `run` does not reach what they are for: bz_label `Words` (a text as words), `Names` (identifiers and
 -- kinds), `Arguments` (what arguments keep that were read, a test of their words). They are for how commands are read
 -- (`command_of`, `is_command`) and for `command_passes`.
-use Rattle.std.specs.Prelude.{◌≡◌, ℕ, ◌==◌, List, [], ◌∷◌, Bool, true, false, ◌&&◌, ◌||◌, not, if◌then◌else◌, Option, Some, None, Result, Ok, Err, map, length, codes, bytes_eq, option_map}
+use Rattle.std.specs.Prelude.{◌≡◌, ℕ, ◌==◌, List, [], ◌∷◌, Bool, true, false, ◌&&◌, ◌||◌, not, if◌then◌else◌, Option, Some, None, Result, Ok, Err, map, length, codes, bytes_eq, option_map, option_and_then}
 use Rattle.std.specs.List.{list_all, list_any}
 use Rattle.std.specs.Str.{is_utf8}
 use Rattle.bz_label.specs.declared.arguments.Attributes.TheVariants.{Every, Named}
@@ -12,7 +13,7 @@ use Rattle.bz_label.specs.declared.arguments.Setting.TheVariants.{ToKind, ToValu
 use Rattle.bz_label.specs.declared.arguments.Moved.{Moved}
 use Rattle.bz_label.specs.declared.arguments.Moved.TheVariants.{All, Values}
 use Rattle.bz_label.specs.declared.arguments.Commented.{Commented}
-use Rattle.bz_label.specs.declared.arguments.Commented.TheVariants.{Rule, Attribute, Value}
+use Rattle.bz_label.specs.declared.arguments.Commented.TheVariants.{Rule as OfRule, Attribute, Value}
 use Rattle.bz_rule.specs.declared.command.Action.{Action}
 use Rattle.bz_rule.specs.declared.command.Action.TheVariants.{Add, Remove, Set, SetIfAbsent, Delete, Rename, Move, Replace, Comment, Print}
 use Rattle.bz_rule.specs.declared.command.CommandFault.{CommandFault}
@@ -21,20 +22,21 @@ use Rattle.bz_label.specs.Names.{is_identifier, is_kind}
 use Rattle.bz_label.specs.Words.{words_of}
 use Rattle.bz_tree.specs.Tree.{Segment, Statement}
 use Rattle.bz_label.specs.Labels.{Package}
-use Rattle.bz_attribute.specs.Rules.{first_named}
-use Rattle.bz_attribute.specs.Effects.{has, done, not_a_list, with_args, slot_done, holds_rule}
+use Rattle.bz_attribute.specs.Rules.{Rule, first_named, rule_of}
+use Rattle.bz_attribute.specs.Effects.{has, done, is_absent, not_a_list, with_args, slot_done, holds_rule}
 use Rattle.bz_rule.specs.Add.{add, adds}
 use Rattle.bz_rule.specs.Remove.{remove, removes}
 use Rattle.bz_rule.specs.Rename.{rename, rename_note}
 use Rattle.bz_rule.specs.Set.{set, sets, set_if_absent, with_kind, sets_kind_of}
 use Rattle.bz_rule.specs.Move.{move, moves, move_note}
 use Rattle.bz_rule.specs.Replace.{replace, replaces}
-use Rattle.bz_rule.specs.Comment.{comment_rule, comment_args, comment_done}
-use Rattle.bz_rule.specs.Print.{prints}
+use Rattle.bz_rule.specs.Comment.{comment_rule, comment_attribute, comment_value, comment_note, is_on_args}
+use Rattle.bz_rule.specs.Print.{fields_of, line_of, missing, prints, field_of, is_field, is_named_field, print_mentions}
 use Rattle.bz_attribute.specs.declared.done.Done.{Done}
-use Rattle.bz_label.specs.Arguments.{breaks_line, field_of, is_field, are_attributes, is_setting, is_moved, is_commented, is_named_field, attributes_pass, setting_passes, moved_passes, commented_passes}
+use Rattle.bz_attribute.specs.declared.done.Note.{Note}
+use Rattle.bz_label.specs.Arguments.{breaks_line, are_attributes, is_setting, is_moved, is_commented, attributes_pass, setting_passes, moved_passes, commented_passes, attributes_mention, setting_mentions, comment_mentions}
 
--- a command is the enum of the source
+-- a command is the enum `Action` of `src/command.rt`
 abbrev pub Command : Type 0
 Command = Action
 
@@ -105,7 +107,7 @@ comment_before place text = if list_any breaks_line text then Err CommentLine el
 
 -- `comment <text>`, `comment <attr> <text>`, `comment <attr> <v> <text>`
 abbrev pub comment_of : List (List ℕ) → Result Command CommandFault
-comment_of (text ∷ []) = comment_before Rule text
+comment_of (text ∷ []) = comment_before OfRule text
 comment_of (attr ∷ text ∷ []) = if is_identifier attr then comment_before (Attribute attr) text else Err BadAttribute
 comment_of (attr ∷ value ∷ text ∷ []) = if is_identifier attr then comment_before (Value attr value) text else Err BadAttribute
 comment_of _ = Err WrongCount
@@ -183,33 +185,86 @@ args_after (SetIfAbsent attr values) home args = set_if_absent attr values args
 args_after (Rename old new) home args = rename old new args
 args_after (Move old new chosen) home args = move home old new chosen args
 args_after (Replace attrs old new) home args = replace home attrs old new args
-args_after (Comment commented text) home args = comment_args commented home text args
+args_after (Comment (Attribute attr) text) home args = comment_attribute attr text args
+args_after (Comment (Value attr value) text) home args = comment_value home attr value text args
 args_after _ home args = args
 
--- what it tells of them
-abbrev pub args_done : Command → Package → List Segment → Done
-args_done (Add attr values) home args = done (not_a_list attr (first_named attr args)) (adds home values (first_named attr args))
-args_done (Remove attrs values) home args = done None (removes home attrs values args)
-args_done (Set (ToValues attr values)) home args = done None (sets attr values (first_named attr args))
-args_done (SetIfAbsent attr values) home args = done None (not (has attr args))
-args_done (Rename old new) home args = done (rename_note old new args) true
-args_done (Move old new chosen) home args = done (move_note old new args) (moves home old chosen args)
-args_done (Replace attrs old new) home args = done None (replaces home attrs old new args)
-args_done (Comment commented text) home args = comment_done commented home args
-args_done _ home args = done None false
+-- why it does nothing to them
+abbrev pub args_note : Command → Package → List Segment → Option Note
+args_note (Add attr values) home args = not_a_list attr (first_named attr args)
+args_note (Rename old new) home args = rename_note old new args
+args_note (Move old new chosen) home args = move_note old new args
+args_note (Comment (Attribute attr) text) home args = is_absent attr args
+args_note (Comment (Value attr value) text) home args = comment_note home attr value args
+args_note _ home args = None
 
--- What stands in a slot after a command. What is no rule stays as it is.
+-- What stands in a slot after a command. What is no rule stays as it is. (`Comment Rule`: the comment above a rule.)
 abbrev pub after : Command → Package → Option Statement → Option Statement
 after Delete home slot = if holds_rule slot then None else slot
 after (Set (ToKind kind)) home slot = option_map (with_kind kind) slot
-after (Comment Rule text) home slot = option_map (comment_rule text) slot
+after (Comment OfRule text) home slot = option_map (comment_rule text) slot
 after (Print fields) home slot = slot
 after command home slot = option_map (with_args (args_after command home)) slot
 
--- What the command tells of it.
+-- what a command tells of the rule that stands in a slot
+abbrev pub in_rule : {A : Type 0} → (Statement → Rule → Option A) → Option Statement → Option A
+in_rule tells slot = option_and_then (λ s. option_and_then (tells s) (rule_of s.nodes)) slot
+
+-- What it notes there: why it does nothing to the rule, or which field of it cannot be printed.
+abbrev pub note_of : Command → Package → Option Statement → Option Note
+note_of (Print fields) home slot = in_rule (λ s r. missing home s r (fields_of fields)) slot
+note_of command home slot = in_rule (λ s r. args_note command home r.args) slot
+
+-- the line that it prints
+abbrev pub printed_line : Command → Package → Option Statement → Option (List ℕ)
+printed_line (Print fields) home slot = in_rule (λ s r. Some (line_of home s r (fields_of fields))) slot
+printed_line _ home slot = None
+
+-- whether a command changes arguments of which it notes nothing
+abbrev pub args_changed : Command → Package → List Segment → Bool
+args_changed (Add attr values) home args = adds home values (first_named attr args)
+args_changed (Remove attrs values) home args = removes home attrs values args
+args_changed (Set (ToValues attr values)) home args = sets attr values (first_named attr args)
+args_changed (SetIfAbsent attr values) home args = not (has attr args)
+args_changed (Rename old new) home args = true
+args_changed (Move old new chosen) home args = moves home old chosen args
+args_changed (Replace attrs old new) home args = replaces home attrs old new args
+args_changed (Comment commented text) home args = is_on_args commented
+args_changed _ home args = false
+
+-- what it tells of them
+abbrev pub args_done : Command → Package → List Segment → Done
+args_done command home args = done (args_note command home args) (args_changed command home args)
+
+-- What a command does to a slot: whether it changes it, its line and its note.
 abbrev pub done_of : Command → Package → Option Statement → Done
 done_of Delete home slot = done None (holds_rule slot)
 done_of (Set (ToKind kind)) home slot = sets_kind_of kind slot
-done_of (Comment Rule text) home slot = done None (holds_rule slot)
+done_of (Comment OfRule text) home slot = done None (holds_rule slot)
 done_of (Print fields) home slot = prints home fields slot
 done_of command home slot = slot_done (args_done command home) slot
+
+-- Of each command for the laws: which attributes it mentions, and whether it leaves all comments.
+
+-- the attributes that a command mentions; it looks at no other argument's value, but for that of a rule's name, and changes none
+abbrev pub mentions : Command → List ℕ → Bool
+mentions (Add attr values) name = bytes_eq attr name
+mentions (Remove attrs values) name = attributes_mention name attrs
+mentions (Set setting) name = setting_mentions name setting
+mentions (SetIfAbsent attr values) name = bytes_eq attr name
+mentions Delete name = false
+mentions (Rename old new) name = bytes_eq old name || bytes_eq new name
+mentions (Move old new moved) name = bytes_eq old name || bytes_eq new name
+mentions (Replace attrs old new) name = attributes_mention name attrs
+mentions (Comment commented text) name = comment_mentions name commented
+mentions (Print fields) name = print_mentions name fields
+
+-- The commands that leave all comments of a statement.
+abbrev pub keeps_comments : Command → Bool
+keeps_comments (Add attr values) = true
+keeps_comments (Set (ToKind kind)) = true
+keeps_comments (SetIfAbsent attr values) = true
+keeps_comments (Rename old new) = true
+keeps_comments (Replace attrs old new) = true
+keeps_comments (Print fields) = true
+keeps_comments _ = false

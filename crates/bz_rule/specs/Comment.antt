@@ -1,5 +1,5 @@
 -- What `comment` does (buildozer README, edit commands; where the line stands is this project's own rule).
--- Begin with `comment_args` and `comment_rule`.
+-- Begin with `comment_rule`, `comment_attribute` and `comment_value`.
 use Rattle.std.specs.Prelude.{ℕ, ◌==◌, List, [], ◌∷◌, ◌++◌, Bool, true, false, ◌||◌, if◌then◌else◌, Option, Some, None, is_some, option_and_then}
 use Rattle.std.specs.List.{list_any, list_all}
 use Rattle.bz_tree.specs.Tree.{Segment, Statement}
@@ -8,8 +8,7 @@ use Rattle.bz_label.specs.declared.arguments.Commented.{Commented}
 use Rattle.bz_label.specs.declared.arguments.Commented.TheVariants.{Rule as OfRule, Attribute, Value}
 use Rattle.bz_attribute.specs.Rules.{rule_of, is_named, first_named, value}
 use Rattle.bz_attribute.specs.Lists.{with_value, parts, equals}
-use Rattle.bz_attribute.specs.Effects.{done, edit_first, has, is_absent, not_a_list, edit_element, with_comment}
-use Rattle.bz_attribute.specs.declared.done.Done.{Done}
+use Rattle.bz_attribute.specs.Effects.{edit_first, has, is_absent, not_a_list, edit_part, with_comment}
 use Rattle.bz_attribute.specs.declared.done.Note.{Note}
 use Rattle.bz_attribute.specs.declared.done.Note.TheVariants.{NoValue}
 use Rattle.bz_token.specs.Common.{map_or}
@@ -36,9 +35,12 @@ comment_rule text s = record s { before = map_or s.before (λ r. s.before ++ com
 abbrev pub comment_attribute : List ℕ → List ℕ → List Segment → List Segment
 comment_attribute attr text args = if has attr args then edit_first (is_named attr) (λ a. with_comment (comment_line text) a ∷ []) args else args
 
+-- an argument with the line above its first element of this value, in the first list part that has one
 abbrev pub comment_element : Package → List ℕ → List ℕ → Segment → Segment
-comment_element home v text a = with_value (edit_element (equals home v) (with_comment (comment_line text)) (value a)) a
+comment_element home v text a =
+    with_value (edit_part (list_any (equals home v)) (edit_first (equals home v) (λ s. with_comment (comment_line text) s ∷ [])) (value a)) a
 
+-- the note where no element of a list part equals the value
 abbrev pub is_missing : Package → List ℕ → List ℕ → Option Segment → Option Note
 is_missing home attr v arg = option_and_then (λ a. if list_any (list_any (equals home v)) (parts (value a)) then None else Some (NoValue attr v)) arg
 
@@ -50,14 +52,7 @@ comment_note home attr v args = option_or (is_absent attr args) (option_or (not_
 abbrev pub comment_value : Package → List ℕ → List ℕ → List ℕ → List Segment → List Segment
 comment_value home attr v text args = if is_some (comment_note home attr v args) then args else edit_first (is_named attr) (λ a. comment_element home v text a ∷ []) args
 
--- the arguments after `comment`; a comment above the rule changes none
-abbrev pub comment_args : Commented → Package → List ℕ → List Segment → List Segment
-comment_args OfRule home text args = args
-comment_args (Attribute attr) home text args = comment_attribute attr text args
-comment_args (Value attr value) home text args = comment_value home attr value text args
-
--- what it tells of them
-abbrev pub comment_done : Commented → Package → List Segment → Done
-comment_done OfRule home args = done None false
-comment_done (Attribute attr) home args = done (is_absent attr args) true
-comment_done (Value attr value) home args = done (comment_note home attr value args) true
+-- whether it is a comment of an argument
+abbrev pub is_on_args : Commented → Bool
+is_on_args OfRule = false
+is_on_args _ = true

@@ -1,13 +1,13 @@
 -- What `move` does (buildozer README, edit commands; the failures and what becomes of repeats are this project's own rule).
 -- Begin with `move`.
-use Rattle.std.specs.Prelude.{ℕ, List, [], ◌∷◌, ◌++◌, Bool, false, if◌then◌else◌, Option, is_some, filter}
+use Rattle.std.specs.Prelude.{ℕ, List, [], ◌∷◌, ◌++◌, Bool, true, false, if◌then◌else◌, Option, is_some, filter}
 use Rattle.std.specs.List.{list_any, flat_map}
 use Rattle.bz_tree.specs.Tree.{Segment}
 use Rattle.bz_label.specs.Labels.{Package}
 use Rattle.bz_label.specs.declared.arguments.Moved.{Moved}
 use Rattle.bz_attribute.specs.Rules.{is_named, first_named, value, string_value}
-use Rattle.bz_attribute.specs.Lists.{with_value, parts, edit_first_part, equals}
-use Rattle.bz_attribute.specs.Effects.{has, edit_first, argument, list_item, filtered, unchosen, is_chosen, not_a_list, is_absent, chooses}
+use Rattle.bz_attribute.specs.Lists.{with_value, parts, equals}
+use Rattle.bz_attribute.specs.Effects.{has, edit_first, edit_part, argument, list_item, filtered, unchosen, is_chosen, not_a_list, is_absent, chooses}
 use Rattle.bz_attribute.specs.declared.done.Note.{Note}
 use Rattle.bz_token.specs.Common.{map_or}
 use Rattle.std.specs.Option.{option_or}
@@ -25,13 +25,13 @@ elements_of arg = map_or [] (λ a. flat_map (λ ss. ss) (parts (value a))) arg
 abbrev pub arrivals : Package → List Segment → List Segment → List Segment
 arrivals home there [] = []
 arrivals home there (s ∷ ss) =
-    if map_or false (λ word. list_any (equals home word) there) (string_value s.nodes) then arrivals home there ss
+    if map_or false (λ v. list_any (equals home v) there) (string_value s.nodes) then arrivals home there ss
     else s ∷ arrivals home (there ++ s ∷ []) ss
 
 -- they go to the end of the first list part of `new`, or into a new attribute
 abbrev pub put_in : List ℕ → List Segment → List Segment → List Segment
 put_in new ss args =
-    if has new args then edit_first (is_named new) (λ a. with_value (edit_first_part (λ there. there ++ ss) (value a)) a ∷ []) args
+    if has new args then edit_first (is_named new) (λ a. with_value (edit_part (λ there. true) (λ there. there ++ ss) (value a)) a ∷ []) args
     else args ++ argument new (list_item ss ∷ []) ∷ []
 
 -- `move <old> <new> <v>..`: the chosen elements leave `old`, and each takes its comments with it
@@ -43,9 +43,8 @@ moved home old new chosen args =
 abbrev pub moves : Package → List ℕ → Moved → List Segment → Bool
 moves home old chosen args = map_or false (chooses home chosen) (first_named old args)
 
--- nothing is moved where no element is chosen
-abbrev pub moved_where : Package → List ℕ → List ℕ → Moved → List Segment → List Segment
-moved_where home old new chosen args = if moves home old chosen args then moved home old new chosen args else args
-
+-- nothing is moved where it notes why, nor where no element is chosen
 abbrev pub move : Package → List ℕ → List ℕ → Moved → List Segment → List Segment
-move home old new chosen args = if is_some (move_note old new args) then args else moved_where home old new chosen args
+move home old new chosen args =
+    if is_some (move_note old new args) then args
+    else (if moves home old chosen args then moved home old new chosen args else args)

@@ -1,5 +1,5 @@
 -- What `print` prints of a rule (buildozer README, print; how a value is shown is this project's own rule).
--- Begin with `prints`.
+-- Begin with `line_of` and `missing`.
 -- Of later stops: 6 `flat_text`.
 use Rattle.std.specs.Prelude.{ℕ, ◌==◌, List, [], ◌∷◌, ◌++◌, Bool, false, true, ◌&&◌, ◌||◌, not, if◌then◌else◌, Option, Some, None, option_map, map, is_some, bytes_eq, codes, nat_le}
 use Rattle.std.specs.List.{list_any, list_all, join_with_byte}
@@ -8,11 +8,12 @@ use Rattle.bz_tree.specs.declared.tree.GroupKind.TheVariants.{RuleCall}
 use Rattle.bz_tree.specs.Tree.{Item, Segment, Statement}
 use Rattle.bz_layout.specs.Layout.{flat_text}
 use Rattle.bz_label.specs.Labels.{Package}
+use Rattle.bz_label.specs.Names.{is_identifier}
 use Rattle.bz_label.specs.Values.{quoted}
-use Rattle.bz_label.specs.declared.arguments.Field.{Field}
-use Rattle.bz_label.specs.declared.arguments.Field.TheVariants.{Label, Kind, StartLine, EndLine, ValueOf}
-use Rattle.bz_attribute.specs.Rules.{Rule, rule_of, kind_text, name_in, first_named, value, string_value, elements}
-use Rattle.bz_attribute.specs.Lists.{is_list}
+use Rattle.bz_rule.specs.declared.commands.field.Field.{Field}
+use Rattle.bz_rule.specs.declared.commands.field.Field.TheVariants.{Label, Kind, StartLine, EndLine, ValueOf}
+use Rattle.bz_attribute.specs.Rules.{Rule, rule_of, kind_text, name_in, first_named, value, string_value}
+use Rattle.bz_attribute.specs.Lists.{only_list}
 use Rattle.bz_attribute.specs.Texts.{home_text}
 use Rattle.bz_attribute.specs.Effects.{done}
 use Rattle.bz_attribute.specs.declared.done.Done.{Done}
@@ -20,7 +21,7 @@ use Rattle.bz_attribute.specs.declared.done.Note.{Note}
 use Rattle.bz_attribute.specs.declared.done.Note.TheVariants.{Missing}
 use Rattle.bz_token.specs.Common.{map_or, is_empty}
 
--- no quote, no space and no byte below it
+-- not empty, and with no quote, no space and no byte below it
 abbrev pub is_plain : List ℕ → Bool
 is_plain v = not (is_empty v) && not (list_any (λ b. b == 34 || nat_le b 32) v)
 
@@ -28,31 +29,23 @@ is_plain v = not (is_empty v) && not (list_any (λ b. b == 34 || nat_le b 32) v)
 abbrev pub word_form : List ℕ → List ℕ
 word_form v = if is_plain v then v else quoted v
 
+-- strings as words in brackets
 abbrev pub words_text : List Segment → List ℕ
 words_text ss = codes "[" ++ join_with_byte 32 (map (λ s. map_or [] word_form (string_value s.nodes)) ss) ++ codes "]"
 
--- one list of strings with values in brackets; anything else but a string is its text on one line
+-- a value that is no string: one list of strings with values as words in brackets, anything else as its text on one line
 abbrev pub list_text : List Item → List ℕ
-list_text (x ∷ []) = if is_list x && list_all (λ s. is_some (string_value s.nodes)) (elements x) then words_text (elements x) else flat_text (Some RuleCall) (x ∷ [])
-list_text nodes = flat_text (Some RuleCall) nodes
+list_text nodes =
+    let flat = flat_text (Some RuleCall) nodes in
+    map_or flat (λ ss. if list_all (λ s. is_some (string_value s.nodes)) ss then words_text ss else flat) (only_list nodes)
 
+-- a value: a string as a word, anything else as `list_text` has it
 abbrev pub value_text : List Item → List ℕ
 value_text nodes = map_or (list_text nodes) word_form (string_value nodes)
-
--- the text of a field, or nothing where it is missing
-abbrev pub field_text : Package → Statement → Rule → Field → Option (List ℕ)
-field_text home s r Label = option_map (λ name. home_text home ++ name) (name_in r.args)
-field_text home s r Kind = Some (kind_text r.kind)
-field_text home s r StartLine = Some (decimal s.start)
-field_text home s r EndLine = Some (decimal s.end)
-field_text home s r (ValueOf attr) = option_map (λ a. value_text (value a)) (first_named attr r.args)
 
 -- without fields the name and the kind
 abbrev pub fields_of : List Field → List Field
 fields_of fields = if is_empty fields then ValueOf (codes "name") ∷ Kind ∷ [] else fields
-
-abbrev pub line_of : Package → Statement → Rule → List Field → List ℕ
-line_of home s r fields = join_with_byte 32 (map (λ field. map_or (codes "(missing)") (λ text. text) (field_text home s r field)) fields)
 
 abbrev pub field_name : Field → List ℕ
 field_name Label = codes "label"
@@ -61,10 +54,24 @@ field_name StartLine = codes "startline"
 field_name EndLine = codes "endline"
 field_name (ValueOf attr) = attr
 
--- the first field that is missing
-abbrev pub missing : Package → Statement → Rule → List Field → Option Note
-missing home s r [] = None
-missing home s r (field ∷ fields) = if is_some (field_text home s r field) then missing home s r fields else Some (Missing (field_name field))
+-- of a rule, and the statement that it is
+module _ (home : Package) (s : Statement) (r : Rule) where
+  -- the text of a field, or nothing where it is missing
+  abbrev pub field_text : Field → Option (List ℕ)
+  field_text Label = option_map (λ name. home_text home ++ name) (name_in r.args)
+  field_text Kind = Some (kind_text r.kind)
+  field_text StartLine = Some (decimal s.start)
+  field_text EndLine = Some (decimal s.end)
+  field_text (ValueOf attr) = option_map (λ a. value_text (value a)) (first_named attr r.args)
+
+  -- the line of some fields
+  abbrev pub line_of : List Field → List ℕ
+  line_of fields = join_with_byte 32 (map (λ f. map_or (codes "(missing)") (λ t. t) (field_text f)) fields)
+
+  -- the first field that is missing
+  abbrev pub missing : List Field → Option Note
+  missing [] = None
+  missing (f ∷ fields) = if is_some (field_text f) then missing fields else Some (Missing (field_name f))
 
 -- the name alone determines what is printed
 abbrev pub is_name_alone : List Field → Bool
@@ -72,6 +79,7 @@ is_name_alone (Label ∷ []) = true
 is_name_alone (ValueOf attr ∷ []) = bytes_eq attr (codes "name")
 is_name_alone _ = false
 
+-- what `print` reports of a rule
 abbrev pub printed : Package → Statement → Rule → List Field → Done
 printed home s r fields = record { changed = false; line = Some (line_of home s r fields); note = missing home s r fields }
 
@@ -79,3 +87,33 @@ printed home s r fields = record { changed = false; line = Some (line_of home s 
 abbrev pub prints : Package → List Field → Option Statement → Done
 prints home fields None = done None false
 prints home fields (Some s) = map_or (done None false) (λ r. printed home s r (fields_of fields)) (rule_of s.nodes)
+
+-- how the words of the command are read, and which attributes it mentions
+
+-- the fields that buildozer has and this program leaves out
+abbrev pub is_left_out_field : List ℕ → Bool
+is_left_out_field word = list_any (bytes_eq word) (codes "rule" ∷ codes "attrs" ∷ codes "path" ∷ [])
+
+abbrev pub is_field : List ℕ → Bool
+is_field word = is_identifier word && not (is_left_out_field word)
+
+-- the field that such a word names
+abbrev pub field_of : List ℕ → Field
+field_of word =
+    if bytes_eq word (codes "label") then Label
+    else (if bytes_eq word (codes "kind") then Kind
+    else (if bytes_eq word (codes "startline") then StartLine
+    else (if bytes_eq word (codes "endline") then EndLine else ValueOf word)))
+
+abbrev pub is_named_field : Field → Bool
+is_named_field (ValueOf attr) = is_field attr
+is_named_field _ = true
+
+abbrev pub field_mentions : List ℕ → Field → Bool
+field_mentions name (ValueOf attr) = bytes_eq attr name
+field_mentions name _ = false
+
+-- without fields the name is printed
+abbrev pub print_mentions : List ℕ → List Field → Bool
+print_mentions name [] = bytes_eq name (codes "name")
+print_mentions name (field ∷ fields) = list_any (field_mentions name) (field ∷ fields)

@@ -1,5 +1,5 @@
 -- What `remove` does (buildozer README, edit commands).
--- Begin with `remove` and `removes`.
+-- Begin with `remove`.
 use Rattle.std.specs.Prelude.{ℕ, List, [], ◌∷◌, Bool, ◌&&◌, not, if◌then◌else◌, filter, codes, false}
 use Rattle.std.specs.List.{list_any, flat_map}
 use Rattle.bz_tree.specs.Tree.{Segment}
@@ -16,14 +16,15 @@ use Rattle.bz_token.specs.Common.{map_or}
 abbrev pub goes_with_all : Segment → Bool
 goes_with_all a = is_attribute a && not (is_named (codes "name") a)
 
--- `remove *`, `remove * <v>..`, `remove <attr>`, `remove <attr> <v>..`
+-- `remove *`, `remove * <v>..`, `remove <attr>` (each argument of the name goes), `remove <attr> <v>..` (in the first one)
 abbrev pub remove : Package → Attributes → List (List ℕ) → List Segment → List Segment
 remove home Every [] args = filter (λ a. not (goes_with_all a)) args
-remove home Every (v ∷ values) args =
-    flat_map (λ a. if is_attribute a then filtered (unchosen home (Values (v ∷ values))) a else a ∷ []) args
 remove home (Named attr) [] args = filter (λ a. not (is_named attr a)) args
-remove home (Named attr) (v ∷ values) args = edit_first (is_named attr) (filtered (unchosen home (Values (v ∷ values)))) args
+remove home Every values args =
+    flat_map (λ a. if is_attribute a then filtered (unchosen home (Values values)) a else a ∷ []) args
+remove home (Named attr) values args = edit_first (is_named attr) (filtered (unchosen home (Values values))) args
 
+-- whether it changes something
 abbrev pub removes : Package → Attributes → List (List ℕ) → List Segment → Bool
 removes home Every [] args = list_any goes_with_all args
 removes home Every (v ∷ values) args = list_any (λ a. is_attribute a && chooses home (Values (v ∷ values)) a) args

@@ -1,5 +1,5 @@
 -- What `replace` does (buildozer README, edit commands).
--- Begin with `replace` and `replaces`.
+-- Begin with `replace`.
 use Rattle.std.specs.Prelude.{ℕ, List, [], ◌∷◌, Bool, false, ◌&&◌, not, if◌then◌else◌, map}
 use Rattle.std.specs.List.{list_any}
 use Rattle.bz_tree.specs.Tree.{Segment}
@@ -15,19 +15,20 @@ use Rattle.bz_token.specs.Common.{map_or}
 abbrev pub is_replaced : Package → List ℕ → List ℕ → Segment → Bool
 is_replaced home old new s = equals home old s && not (is_text new (string_value s.nodes))
 
--- its comments stay
+-- an element, with `new` in the place of what is replaced: its comments stay
 abbrev pub replaced : Package → List ℕ → List ℕ → Segment → Segment
 replaced home old new s = if is_replaced home old new s then record s { nodes = string_item new ∷ [] } else s
 
--- in all list parts
+-- an argument with the elements of all its list parts replaced
 abbrev pub replaced_in : Package → List ℕ → List ℕ → Segment → Segment
 replaced_in home old new a = with_value (edit_parts (map (replaced home old new)) (value a)) a
 
--- `replace <attr> <old> <new>`, and in all attributes where <attr> is `*`
+-- `replace <attr> <old> <new>`: in the first argument of the name, and in all attributes where <attr> is `*`
 abbrev pub replace : Package → Attributes → List ℕ → List ℕ → List Segment → List Segment
 replace home (Named attr) old new args = edit_first (is_named attr) (λ a. replaced_in home old new a ∷ []) args
 replace home Every old new args = map (λ a. if is_attribute a then replaced_in home old new a else a) args
 
+-- whether it changes something
 abbrev pub replaces_in : Package → List ℕ → List ℕ → Segment → Bool
 replaces_in home old new a = list_any (list_any (is_replaced home old new)) (parts (value a))
 

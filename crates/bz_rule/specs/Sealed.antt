@@ -1,13 +1,12 @@
 -- Rules with sealed arguments: arguments that no command of a script mentions are hidden behind others.
 -- Begin with `attributes_of`, `IsSealed` and `NotSeen`.
-use Rattle.std.specs.Prelude.{◌≡◌, ℕ, List, [], ◌∷◌, Bool, false, Option, None, Some, codes, suc, zero}
+use Rattle.std.specs.Prelude.{◌≡◌, ℕ, ◌+◌, List, [], ◌∷◌, ◌++◌, length, Bool, false, Option, None, Some, codes, suc, zero}
 use Rattle.std.specs.List.{flat_map, list_any}
-use Rattle.bz_label.specs.declared.arguments.Attributes.{Attributes}
-use Rattle.bz_label.specs.declared.arguments.Attributes.TheVariants.{Every, Named}
+use Rattle.bz_label.specs.declared.arguments.Attributes.TheVariants.{Named}
 use Rattle.bz_label.specs.declared.arguments.Commented.{Commented}
 use Rattle.bz_label.specs.declared.arguments.Commented.TheVariants.{Rule as Above, Attribute, Value}
-use Rattle.bz_label.specs.declared.arguments.Field.{Field}
-use Rattle.bz_label.specs.declared.arguments.Field.TheVariants.{Label, ValueOf}
+use Rattle.bz_rule.specs.declared.commands.field.Field.{Field}
+use Rattle.bz_rule.specs.declared.commands.field.Field.TheVariants.{Label, ValueOf}
 use Rattle.bz_label.specs.declared.arguments.Setting.{Setting}
 use Rattle.bz_label.specs.declared.arguments.Setting.TheVariants.{ToKind, ToValues}
 use Rattle.bz_label.specs.Labels.{Package, Target}
@@ -19,11 +18,6 @@ use Rattle.bz_rule.specs.Print.{fields_of}
 use Rattle.bz_token.specs.Common.{map_or}
 use Rattle.bz_rule.specs.Commands.{Command, after, done_of}
 use Rattle.bz_rule.specs.declared.command.Action.TheVariants.{Add, Comment, Delete, Move, Print, Remove, Rename, Replace, Set, SetIfAbsent}
-
--- `*` speaks of every attribute
-abbrev pub attributes_named : Attributes → Option (List (List ℕ))
-attributes_named Every = None
-attributes_named (Named attr) = Some (attr ∷ [])
 
 abbrev pub attributes_set : Setting → List (List ℕ)
 attributes_set (ToKind kind) = []
@@ -40,39 +34,40 @@ attributes_printed Label = codes "name" ∷ []
 attributes_printed (ValueOf attr) = attr ∷ []
 attributes_printed _ = []
 
--- The attributes that a command mentions: it looks at no argument of another name, and changes none. None: it looks at them all.
+-- The attributes that a command mentions: it looks at no argument of another name, and changes none. None: it may look at them all, as where it has `*`.
 abbrev pub attributes_of : Command → Option (List (List ℕ))
 attributes_of (Add attr values) = Some (attr ∷ [])
-attributes_of (Remove attributes values) = attributes_named attributes
+attributes_of (Remove (Named attr) values) = Some (attr ∷ [])
 attributes_of (Set setting) = Some (attributes_set setting)
 attributes_of (SetIfAbsent attr values) = Some (attr ∷ [])
 attributes_of Delete = Some []
 attributes_of (Rename old new) = Some (old ∷ new ∷ [])
 attributes_of (Move old new moved) = Some (old ∷ new ∷ [])
-attributes_of (Replace attributes old new) = attributes_named attributes
+attributes_of (Replace (Named attr) old new) = Some (attr ∷ [])
 attributes_of (Comment place text) = Some (attributes_commented place)
 attributes_of (Print fields) = Some (flat_map attributes_printed (fields_of fields))
+attributes_of _ = None
 
 -- one of the names is that of the argument
 abbrev pub is_among : List (List ℕ) → Segment → Bool
 is_among names a = list_any (λ name. is_named name a) names
 
--- A sealed argument stands for another: none of the names is that of either, and it is like the other.
-pub record StandsFor (like : Segment → Segment → Type 0) (names : List (List ℕ)) (a sealed : Segment) : Type 0 where
-  pub unasked : is_among names a ≡ false
+-- A sealed argument stands for a run of others: none of the names is that of one of them, or its own, and it is like them.
+pub record StandsFor (like : List Segment → Segment → Type 0) (names : List (List ℕ)) (run : List Segment) (sealed : Segment) : Type 0 where
+  pub unasked : list_any (is_among names) run ≡ false
   pub unnamed : is_among names sealed ≡ false
-  pub alike : like a sealed
+  pub alike : like run sealed
 
--- Arguments, and the same where some of them, so many, are sealed.
-pub data AreSealed (like : Segment → Segment → Type 0) (names : List (List ℕ)) : ℕ → List Segment → List Segment → Type 0 where
+-- Arguments, and the same where some of them, so many, are sealed: runs of neighbours, each as one.
+pub data AreSealed (like : List Segment → Segment → Type 0) (names : List (List ℕ)) : ℕ → List Segment → List Segment → Type 0 where
   all_done : AreSealed like names zero [] []
   -- an argument as it is
   same : {count : ℕ} {args others : List Segment} (a : Segment) → AreSealed like names count args others → AreSealed like names count (a ∷ args) (a ∷ others)
-  sealed : {count : ℕ} {args others : List Segment} {a t : Segment} → StandsFor like names a t → AreSealed like names count args others
-      → AreSealed like names (suc count) (a ∷ args) (t ∷ others)
+  sealed : {count : ℕ} {args others run : List Segment} {a t : Segment} → StandsFor like names (a ∷ run) t → AreSealed like names count args others
+      → AreSealed like names (suc (length run + count)) (a ∷ (run ++ args)) (t ∷ others)
 
 -- A rule, and the same rule where so many of its arguments are sealed.
-pub record IsSealed (like : Segment → Segment → Type 0) (names : List (List ℕ)) (count : ℕ) (s t : Statement) : Type 0 where
+pub record IsSealed (like : List Segment → Segment → Type 0) (names : List (List ℕ)) (count : ℕ) (s t : Statement) : Type 0 where
   pub rule : Rule
   pub args : List Segment
   pub read : rule_of s.nodes ≡ Some rule
@@ -81,13 +76,13 @@ pub record IsSealed (like : Segment → Segment → Type 0) (names : List (List 
   -- the comments, the class and the lines are the same
   pub rest : t ≡ record s { nodes = t.nodes }
 
--- the same of slots: in both nothing, or such rules
-pub data SlotsSealed (like : Segment → Segment → Type 0) (names : List (List ℕ)) (count : ℕ) : Option Statement → Option Statement → Type 0 where
+-- slots with nothing in both, or with a rule and the same rule where so many of its arguments are sealed
+pub data SlotsSealed (like : List Segment → Segment → Type 0) (names : List (List ℕ)) (count : ℕ) : Option Statement → Option Statement → Type 0 where
   both_empty : SlotsSealed like names count None None
   both_rules : {s t : Statement} → IsSealed like names count s t → SlotsSealed like names count (Some s) (Some t)
 
 -- The command does not see what is sealed: it tells the same, does the same, and leaves each sealed argument as it is.
-pub record NotSeen (like : Segment → Segment → Type 0) (names : List (List ℕ)) (c : Command) (home : Package) : Type 0 where
+pub record NotSeen (like : List Segment → Segment → Type 0) (names : List (List ℕ)) (c : Command) (home : Package) : Type 0 where
   pub told : (count : ℕ) (slot other : Option Statement) → SlotsSealed like names count slot other → done_of c home slot ≡ done_of c home other
   pub left : (count : ℕ) (slot other : Option Statement) → SlotsSealed like names count slot other → SlotsSealed like names count (after c home slot) (after c home other)
 

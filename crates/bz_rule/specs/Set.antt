@@ -1,23 +1,20 @@
 -- What `set` and `set_if_absent` do (buildozer README, edit commands; what a word stands for is this project's own rule).
 -- Begin with `set`, `set_if_absent` and `with_kind`.
--- Of later stops: 8 `begins`.
-use Rattle.std.specs.Prelude.{ℕ, ◌==◌, List, [], ◌∷◌, ◌++◌, Bool, true, false, ◌&&◌, ◌||◌, not, if◌then◌else◌, Option, Some, None, map, codes, bytes_eq}
-use Rattle.std.specs.List.{list_any, list_all, slice_split}
+use Rattle.std.specs.Prelude.{ℕ, ◌==◌, List, [], ◌∷◌, ◌++◌, Bool, true, false, ◌&&◌, ◌||◌, not, if◌then◌else◌, Option, Some, None, is_some, map, codes, bytes_eq}
+use Rattle.std.specs.List.{join_by, list_any, list_all, slice_split}
 use Rattle.bz_token.specs.declared.token.Kind.TheVariants.{Identifier, Integer, Operator}
 use Rattle.bz_tree.specs.Tree.{Item, leaf, Segment, Statement}
-use Rattle.bz_attribute.specs.Rules.{Rule, rule_of, kind_text, is_named, is_text, first_named, value, string_value, elements}
-use Rattle.bz_attribute.specs.Lists.{is_list, with_value, is_only}
+use Rattle.bz_attribute.specs.Rules.{Rule, rule_of, kind_text, is_named, is_text, first_named, value, string_value}
+use Rattle.bz_attribute.specs.Lists.{only_list, with_value}
 use Rattle.bz_attribute.specs.Effects.{has, edit_first, argument, list_item, string, string_item, nodes_of, done}
 use Rattle.bz_attribute.specs.declared.done.Done.{Done}
 use Rattle.bz_token.specs.Common.{map_or}
-use Rattle.bz_token.specs.Lexical.{begins}
 use Rattle.std.specs.Char.{is_ascii_digit}
+use Rattle.std.specs.Cmp.Lexicographic.{pointwise}
 
 -- the attributes that are lists in all rules
 abbrev pub list_attributes : List (List ℕ)
-list_attributes =
-    codes "srcs" ∷ codes "hdrs" ∷ codes "textual_hdrs" ∷ codes "deps" ∷ codes "runtime_deps" ∷ codes "exports" ∷ codes "data" ∷ codes "tools" ∷ codes "outs"
-    ∷ codes "visibility" ∷ codes "default_visibility" ∷ codes "tags" ∷ codes "copts" ∷ codes "defines" ∷ codes "includes" ∷ codes "linkopts" ∷ codes "features" ∷ []
+list_attributes = slice_split (λ b. b == 32) (codes "srcs hdrs textual_hdrs deps runtime_deps exports data tools outs visibility default_visibility tags copts defines includes linkopts features")
 
 abbrev pub is_list_attribute : List ℕ → Bool
 is_list_attribute attr = list_any (bytes_eq attr) list_attributes
@@ -25,7 +22,7 @@ is_list_attribute attr = list_any (bytes_eq attr) list_attributes
 -- `0`, or digits that do not begin with 0
 abbrev pub is_number : List ℕ → Bool
 is_number [] = false
-is_number (b ∷ bs) = bytes_eq (b ∷ bs) (codes "0") || list_all is_ascii_digit (b ∷ bs) && not (begins (λ b. b == 48) (b ∷ bs))
+is_number (b ∷ bs) = bytes_eq (b ∷ bs) (codes "0") || list_all is_ascii_digit (b ∷ bs) && not (b == 48)
 
 abbrev pub is_constant : List ℕ → Bool
 is_constant word = list_any (bytes_eq word) (codes "True" ∷ codes "False" ∷ codes "None" ∷ [])
@@ -42,16 +39,15 @@ pub data New : Type 0 where
 
 -- one word that stands alone
 abbrev pub new_word : List ℕ → New
-new_word word = if is_number word then NewNumber word else (if is_constant word then NewConstant word else NewString word)
+new_word w = if is_number w then NewNumber w else (if is_constant w then NewConstant w else NewString w)
 
 -- What the words stand for, where `was` is the argument that is there: a name is a string; one word is a list where the
 -- attribute is one, by its name or by what is there; two or more words are a list.
 abbrev pub new_of : List ℕ → List (List ℕ) → Option Segment → New
-new_of attr [] was = NewStrings []
 new_of attr (word ∷ []) was =
     if bytes_eq attr (codes "name") then NewString word
-    else (if is_list_attribute attr || map_or false (λ a. is_only is_list (value a)) was then NewStrings (word ∷ []) else new_word word)
-new_of attr (word ∷ other ∷ words) was = NewStrings (word ∷ other ∷ words)
+    else (if is_list_attribute attr || map_or false (λ a. is_some (only_list (value a))) was then NewStrings (word ∷ []) else new_word word)
+new_of attr words was = NewStrings words
 
 -- the nodes that are written
 abbrev pub new_value : New → List Item
@@ -60,18 +56,13 @@ new_value (NewNumber digits) = leaf Integer digits ∷ []
 new_value (NewConstant name) = leaf Identifier name ∷ []
 new_value (NewStrings words) = list_item (map string words) ∷ []
 
--- strings with these values, one for each word
-abbrev pub are_strings : List (List ℕ) → List Segment → Bool
-are_strings [] [] = true
-are_strings (word ∷ words) (s ∷ ss) = is_text word (string_value s.nodes) && are_strings words ss
-are_strings _ _ = false
-
 -- A value is these nodes already: comments do not count, and strings are compared by their values.
 abbrev pub is_value : New → List Item → Bool
 is_value (NewString word) nodes = is_text word (string_value nodes)
 is_value (NewNumber digits) (leaf Integer text ∷ []) = bytes_eq text digits
 is_value (NewConstant name) (leaf Identifier text ∷ []) = bytes_eq text name
-is_value (NewStrings words) (x ∷ []) = is_list x && are_strings words (elements x)
+is_value (NewStrings words) nodes =
+    map_or false (pointwise (λ word s. is_text word (string_value s.nodes)) words) (only_list nodes)
 is_value _ _ = false
 
 abbrev pub set_in : New → Segment → Segment
@@ -91,22 +82,14 @@ sets attr words arg = map_or true (λ a. not (is_value (new_of attr words (Some 
 abbrev pub set_if_absent : List ℕ → List (List ℕ) → List Segment → List Segment
 set_if_absent attr words args = if has attr args then args else args ++ argument attr (new_value (new_of attr words None)) ∷ []
 
-abbrev pub joined_by_dots : List (List ℕ) → List Item
-joined_by_dots [] = []
-joined_by_dots (name ∷ []) = leaf Identifier name ∷ []
-joined_by_dots (name ∷ other ∷ names) = leaf Identifier name ∷ leaf Operator (codes ".") ∷ joined_by_dots (other ∷ names)
-
--- the tokens of a kind
+-- the tokens of a kind: identifiers, with a dot between two
 abbrev pub kind_items : List ℕ → List Item
-kind_items kind = joined_by_dots (slice_split (λ b. b == 46) kind)
+kind_items kind =
+    join_by (λ name. leaf Identifier name ∷ []) (leaf Operator (codes ".") ∷ []) (slice_split (λ b. b == 46) kind)
 
 -- `set kind <k>`
-abbrev pub kind_after : List ℕ → List Item → Option Rule → List Item
-kind_after kind nodes None = nodes
-kind_after kind nodes (Some r) = if bytes_eq (kind_text r.kind) kind then nodes else nodes_of (record r { kind = kind_items kind })
-
 abbrev pub with_kind : List ℕ → Statement → Statement
-with_kind kind s = record s { nodes = kind_after kind s.nodes (rule_of s.nodes) }
+with_kind k s = record s { nodes = map_or s.nodes (λ r. if bytes_eq (kind_text r.kind) k then s.nodes else nodes_of (record r { kind = kind_items k })) (rule_of s.nodes) }
 
 -- what `set kind` tells of a slot
 abbrev pub sets_kind_of : List ℕ → Option Statement → Done

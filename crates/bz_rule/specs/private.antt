@@ -5,5 +5,6 @@ pub mod ListPlaces
 pub mod PrintSteps
 pub mod RowEdits
 pub mod SetViews
+pub mod Steps
 pub mod StringEdits
 pub mod ValueParts

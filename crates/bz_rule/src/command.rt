@@ -1,18 +1,23 @@
 //! The commands on one rule: what each is, how its words are read, and what it makes of the arguments of a rule.
-//! `reader.rt` calls `read_named`, `row_edit.rt` `edit_arguments`, and crates above `one_attribute`, `values_of` and `is_print`.
+//! `reader.rt` calls `read_named`, `row_edit.rt` `edit_arguments`, and crates above `one_attribute`, `attributes_of`,
+//! `values_of` and `is_print`.
 
 ghost use Rattle.bz_memory.specs.NoMemory.{no_memory};
-ghost use Rattle.std.specs.Prelude.{◌≡◌, ◌≢◌, Err, IfOk, IfSome, Some, map, true};
+ghost use Rattle.std.specs.Prelude.{◌≡◌, ◌≢◌, ◌∷◌, ◌++◌, [], Err, IfOk, IfSome, OnOk, Some, map, option_map, true};
+ghost use Rattle.std.specs.List.{flat_map};
 ghost use Rattle.bz_tree.specs.Rows.{part_view};
 ghost use Rattle.bz_attribute.specs.RowEdits.{IsRowEdit};
 ghost use Rattle.bz_rule.specs.Commands as spec;
 ghost use Rattle.bz_rule.specs.Forms.{listed, values_of};
 ghost use Rattle.bz_rule.specs.OneAttribute.{one_attribute};
+ghost use Rattle.bz_rule.specs.Print.{fields_of};
+ghost use Rattle.bz_rule.specs.Sealed as sealed;
 ghost use Rattle.bz_rule.specs.declared.command.Action.TheVariants.{Rename};
 ghost use Rattle.bz_rule.specs.declared.command.CommandFault.TheVariants.{OutOfMemory};
 ghost use Rattle.bz_rule.specs.private.RowEdits.{edits_arguments};
 
 use crate::commands::add::add;
+use crate::commands::field::{Field, read_field};
 use crate::commands::line::comment;
 use crate::commands::moving::{Move, move_elements};
 use crate::commands::remove::remove;
@@ -22,7 +27,7 @@ use crate::commands::set::{set, set_if_absent};
 use crate::forms::Values;
 use crate::reader::{attribute, attributes, breaks_line, ensure, moved, next_word, read_place};
 use bz_attribute::{Done, Edit, Env, Parts};
-use bz_label::{Attributes, Commented, Field, Moved, Seq, Setting, Text, is_kind, read_field};
+use bz_label::{Attributes, Commented, Moved, Seq, Setting, Text, is_kind};
 use bz_memory::{NoMemory, push, with_room_for};
 use bz_tree::Part;
 use std::alloc::Global;
@@ -63,7 +68,8 @@ commands (words are separated by spaces; \"\\ \" is a space inside a word):
   print [FIELD..]              prints attributes, or label, kind, startline, endline
 ";
 
-/// The commands of Bazel's own buildozer (README, "Edit commands" and "Print commands") that this program does not have.
+/// The commands of Bazel's own buildozer (README, "Edit commands" and "Print commands") that this program does not
+/// have.
 pub const LEFT_OUT: [&str; 23] = [
     "copy",
     "copy_no_overwrite",
@@ -261,7 +267,7 @@ fn read_print(alloc: Global, words: Vec<Text>) -> Result<Action, CommandFault>
 {
     let mut fields = with_room_for(alloc, words.as_slice(), 0)?;
     for word in words {
-        let field = read_field(word).ok_or(CommandFault::BadAttribute)?;
+        let field = read_field(word)?;
         push(&mut fields, field)?;
     }
     Ok(Action::Print(Seq::from_vec(fields)))
@@ -282,7 +288,8 @@ fn rename_argument<'a>(
     rename(env.alloc, change.old, change.new, parts, new)
 }
 
-/// What a command makes of the arguments of a rule, by its parts. The new parts go into a list.
+/// What a command makes of the arguments of a rule, by its parts. The new parts go into a list. Each command is named
+/// here: a new one does not compile until it is.
 pub(crate) fn edit_arguments<'a>(
     env: Env<'_>,
     action: &Action,
@@ -317,7 +324,9 @@ pub(crate) fn edit_arguments<'a>(
             set_if_absent(env.alloc, attr.as_str(), words.as_slice(), parts, written)
         }
         Action::Comment(commented, text) => comment(env, commented, text.as_str(), parts, written),
-        _ => Ok(Edit::none(Done::quiet(false))),
+        Action::Set(Setting::ToKind(_)) | Action::Delete | Action::Print(_) => {
+            Ok(Edit::none(Done::quiet(false)))
+        }
     }
 }
 
@@ -338,6 +347,82 @@ pub fn one_attribute(command: &Command) -> Option<&str>
         }
         _ => None,
     }
+}
+
+/// The attributes that a command mentions: it looks at no argument of another name, and changes none. None: it looks at
+/// them all.
+pub fn attributes_of<'c>(
+    alloc: Global,
+    command: &'c Command,
+) -> Result<Option<Vec<&'c str>>, NoMemory>
+    ensures { IfOk result (λ names. option_map (λ names. map (λ name. name.now) names.items) names
+        ≡ sealed.attributes_of command.now) }
+{
+    match &command.action {
+        Action::Add(attr, _) | Action::SetIfAbsent(attr, _) => one_name(alloc, attr),
+        Action::Remove(Attributes::Named(attr), _) => one_name(alloc, attr),
+        Action::Replace(Attributes::Named(attr), _, _) => one_name(alloc, attr),
+        Action::Remove(Attributes::Every, _) | Action::Replace(Attributes::Every, _, _) => Ok(None),
+        Action::Set(Setting::ToValues(attr, _)) => one_name(alloc, attr),
+        Action::Comment(Commented::Attribute(attr) | Commented::Value(attr, _), _) => {
+            one_name(alloc, attr)
+        }
+        Action::Rename(old, new) | Action::Move(old, new, _) => two_names(alloc, old, new),
+        Action::Print(fields) => printed_names(alloc, fields.as_slice()),
+        Action::Set(Setting::ToKind(_)) | Action::Comment(Commented::Rule, _) | Action::Delete => {
+            Ok(Some(Vec::new(alloc)))
+        }
+    }
+}
+
+fn one_name(alloc: Global, attr: &Text) -> Result<Option<Vec<&str>>, NoMemory>
+    ensures { IfOk result (λ names. option_map (λ names. map (λ name. name.now) names.items) names
+        ≡ Some (attr.now ∷ [])) }
+{
+    let mut names = Vec::new(alloc);
+    push(&mut names, attr.as_str())?;
+    Ok(Some(names))
+}
+
+fn two_names<'c>(
+    alloc: Global,
+    old: &'c Text,
+    new: &'c Text,
+) -> Result<Option<Vec<&'c str>>, NoMemory>
+    ensures { IfOk result (λ names. option_map (λ names. map (λ name. name.now) names.items) names
+        ≡ Some (old.now ∷ new.now ∷ [])) }
+{
+    let mut names = Vec::new(alloc);
+    push(&mut names, old.as_str())?;
+    push(&mut names, new.as_str())?;
+    Ok(Some(names))
+}
+
+/// Those of what is printed: without fields the name.
+fn printed_names(alloc: Global, fields: &[Field]) -> Result<Option<Vec<&str>>, NoMemory>
+    ensures { IfOk result (λ names. option_map (λ names. map (λ name. name.now) names.items) names
+        ≡ Some (flat_map sealed.attributes_printed (fields_of fields.now))) }
+{
+    let mut names = Vec::new(alloc);
+    match fields {
+        [] => push(&mut names, "name")?,
+        _ => push_printed_names(&mut names, fields)?,
+    }
+    Ok(Some(names))
+}
+
+fn push_printed_names<'c>(names: &mut Vec<&'c str>, fields: &'c [Field]) -> Result<(), NoMemory>
+    ensures { OnOk result (map (λ name. name.now) names.new.items
+        ≡ map (λ name. name.now) names.old.items ++ flat_map sealed.attributes_printed fields.now) }
+{
+    for field in fields {
+        match field {
+            Field::Label => push(names, "name")?,
+            Field::ValueOf(attr) => push(names, attr.as_str())?,
+            Field::Kind | Field::StartLine | Field::EndLine => {}
+        }
+    }
+    Ok(())
 }
 
 /// The values that the command writes or looks for.

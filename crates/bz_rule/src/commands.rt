@@ -7,6 +7,7 @@ mod argument_edits;
 mod arrivals;
 pub mod comment;
 mod element_edits;
+pub mod field;
 pub mod line;
 mod list_place;
 pub mod moving;

@@ -1,5 +1,5 @@
-//! The words of a command of a certain form, for crates that know a rule by its text alone: which attribute it looks at,
-//! and what it writes there.
+//! The words of a command of a certain form, for crates that know a rule by its text alone: which attribute it looks
+//! at, and what it writes there.
 
 ghost use Rattle.std.specs.Prelude.{◌≡◌, [], ◌∷◌, IfSome, Some};
 ghost use Rattle.bz_label.specs.declared.arguments.Attributes.TheVariants.{Named};
@@ -8,7 +8,8 @@ ghost use Rattle.bz_rule.specs.declared.command.Action.TheVariants.{Add, Comment
 ghost use Rattle.bz_rule.specs.Forms as spec;
 
 use crate::command::{Action, Command};
-use bz_label::{Attributes, Commented, Field, Setting, Text};
+use crate::commands::field::Field;
+use bz_label::{Attributes, Commented, Setting, Text};
 
 /// A value, and the attribute whose list has it or not.
 #[derive(Clone, Copy)]

@@ -14,7 +14,10 @@ mod texts;
 
 pub use bz_attribute::{Done, Note, label, matches};
 pub use bz_label::{LabelFault, Package, Target, Text, quote, read_label, same, value_is};
-pub use command::{Command, CommandFault, LEFT_OUT, USAGE, one_attribute, values_of};
+pub use command::{
+    Command, CommandFault, LEFT_OUT, USAGE, attributes_of, one_attribute, values_of,
+};
+pub use commands::field::{Field, NO_SUCH_FIELD, is_left_out_field};
 pub use reader::read_command;
 pub use slot::apply;
 pub use statement_row::{StatementRow, execute};

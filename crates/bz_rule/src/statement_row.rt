@@ -20,12 +20,13 @@ ghost use Rattle.bz_attribute.specs.RowEdits.{IsWithin, replaced_at};
 ghost use Rattle.bz_rule.specs.private.RowEdits.{is_edit, rule_after};
 
 use crate::command::{Action, Command};
+use crate::commands::field::Field;
 use crate::commands::print::print;
 use crate::row_edit::{edit_rule, kept_head};
 use crate::row_parts::put_in;
 use bumpalo::Bump;
 use bz_attribute::{Done, Env, Executed, Head, Parts, Place, is_rule};
-use bz_label::{Field, Package, Target};
+use bz_label::{Package, Target};
 use bz_layout::put_row;
 use bz_memory::{NoMemory, extend_from_slice, with_room_for_both};
 use bz_tree::{Class, Part, Row, Stmt, push_parts, stmt_of_parts};
@@ -62,7 +63,8 @@ impl<'a> Model for StatementRow<'a> {
 
     ghost view = { λ l. row_statement (row_value l.row.parts.items l.row.class l.row.start l.row.end) };
 
-    ghost invariant = { λ l. HasItsHead (row_value l.row.parts.items l.row.class l.row.start l.row.end) l.head l.comments };
+    ghost invariant = { λ l. HasItsHead
+        (row_value l.row.parts.items l.row.class l.row.start l.row.end) l.head l.comments };
 }
 
 impl<'a> StatementRow<'a> {

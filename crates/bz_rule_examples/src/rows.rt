@@ -9,8 +9,8 @@ use bz_tree::{ParseFault, Part, Row, read_row, read_statement, read_text};
 use std::alloc::Global;
 use std::test::Fail;
 
-/// A chunk, and its parts with its class at the end. A bracket's kind stands where it opens; `,)` closes `(x,)`, `;` ends a
-/// segment, and a comment is above (`^`) or beside (`>`).
+/// A chunk, and its parts with its class at the end. A bracket's kind stands where it opens; `,)` closes `(x,)`, `;`
+/// ends a segment, and a comment is above (`^`) or beside (`>`).
 const ROWS: &str = r##"
 ---
 #a
@@ -81,7 +81,8 @@ list 1 ; """
 """ ; >#a ) Other
 "##;
 
-/// Chunks of which `read_row` has no row, and what they are read as: the row that their tree gives, nothing, or a fault.
+/// Chunks of which `read_row` has no row, and what they are read as: the row that their tree gives, nothing, or a
+/// fault.
 const RARE: &str = r##"
 ---
 ␄

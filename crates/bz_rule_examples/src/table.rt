@@ -15,7 +15,8 @@ else:
   # tail
 "#;
 
-/// The text that a part of a row stands for: `␉`, `␊` and `␍` are a tab, a newline and a carriage return, and `␄` ends it.
+/// The text that a part of a row stands for: `␉`, `␊` and `␍` are a tab, a newline and a carriage return, and `␄` ends
+/// it.
 pub fn plain(alloc: Global, part: &str) -> Result<String, Fail> {
     let mut text = String::new(alloc);
     for c in part.chars() {

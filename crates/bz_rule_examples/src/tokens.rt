@@ -5,7 +5,7 @@ ghost use Rattle.bz_token.specs.Cuts.{is_physical_line, ends_in_newline};
 
 use crate::checks::{check_table, check_value};
 use bumpalo::Bump;
-use bz_token::{Cut, Cutter, Front, LexFault, Next, Token, check_utf8, first_chunk, tokens};
+use bz_token::{Cut, Cutter, LexFault, Next, Token, check_utf8, first_chunk, tokens};
 use std::alloc::Global;
 use std::process::Abort;
 use std::test::Fail;
@@ -263,7 +263,7 @@ fn blocks_go_on(rt: HostRuntime) {
     check_after(&rt, b"def f('\n", " ", false, None);
 }
 
-/// Texts, and the length of the chunk that they begin with, and the number of its tokens; or what else they begin with.
+/// Texts, and the length of the chunk that they begin with, and the number of its tokens; or that none is found.
 const CHUNKS: &str = r##"
 x = 1␊y = 2␊ ! 6 4
 x # a␊y ! 6 3
@@ -275,36 +275,34 @@ iff␊ ! 4 2
  ␊␊ ! 2 1
 # a␊  # b␊␊x␊ ! 11 5
 # a␊f(␊)␊x␊ ! 9 6
-␄ ! short
-x = 1 ! short
-f(␊ ! short
-# a␊# b␊ ! short
-# a␊f(␊  'b ! short
-f("""a ! short
-f("""a␊ ! other
-f('a␊ ! other
-def f ! short
-def f():␊  pass␊␊ ! other
-# a␊for x in y:␊ ! other
-if x:␊ ! other
-x = $␊␊ ! other
-)␊␊ ! other"##;
+␄ ! none
+x = 1 ! none
+f(␊ ! none
+# a␊# b␊ ! none
+# a␊f(␊  'b ! none
+f("""a ! none
+f("""a␊ ! none
+f('a␊ ! none
+def f ! none
+def f():␊  pass␊␊ ! none
+# a␊for x in y:␊ ! none
+if x:␊ ! none
+x = $␊␊ ! none
+)␊␊ ! none"##;
 
-/// What a text begins with: the length of a chunk and the number of its tokens, or a word.
+/// The length of the chunk that a text begins with and the number of its tokens, or `none`.
 fn shown_chunk(alloc: Global, text: &str) -> Result<String, Fail> {
     if text.len() > 1000 {
         return Ok(String::from_str(alloc, "none")?);
     }
     let bump = Bump::new(alloc);
-    let word = match first_chunk(&bump, text, 1, 100)? {
-        Front::Chunk(chunk) => {
+    match first_chunk(&bump, text, 1, 100)? {
+        Some(chunk) => {
             let (length, tokens) = (chunk.text.len(), chunk.tokens.len());
-            return Ok(format!(in alloc; "{length} {tokens}")?);
+            Ok(format!(in alloc; "{length} {tokens}")?)
         }
-        Front::Short => "short",
-        Front::Other => "other",
-    };
-    Ok(String::from_str(alloc, word)?)
+        None => Ok(String::from_str(alloc, "none")?),
+    }
 }
 
 #[test]

@@ -1,10 +1,9 @@
 -- How the loops over a group's words go on.
 use Rattle.std.proofs.Common.{◌≡◌, ℕ, ◌+◌, ◌<◌, List, [], ◌∷◌, ◌++◌, length, get_or, drop, map, Option, None, Some, Result, Ok, Err, refl, sym, ◌∙◌, ap, append_assoc}
-use Rattle.std.proofs.lemmas.List.{map-append}
 use Rattle.std.specs.List.{filter_map}
 use Rattle.std.specs.Option.{option_to_list}
 use Rattle.bz_rule.specs.Commands.{Command}
-use Rattle.bz_script.specs.Groups.{Label, Step, command_in, commands_of, label_and, label_in, labels_of, pass_for}
+use Rattle.bz_script.specs.Groups.{Label, command_in, commands_of, label_and, label_in, labels_of}
 use Rattle.bz_script.specs.declared.usage.UsageFault.{UsageFault}
 use Rattle.bz_script.proofs.Loops.{drop_at}
 
@@ -59,9 +58,3 @@ commands-step seen done whole xs i x read inside same before =
     ∙ ap (λ l. done ++ l) (commands_next command_in (seen (get_or xs i x)) (map seen (drop (i + 1) xs)))
     ∙ sym (ap (λ zs. done ++ commands_of (map seen zs)) (drop_at xs i x inside))
     ∙ before
-
--- the pass of the last label after those of the others
-pub last_pass : (commands : List Command) (labels front : List Label) (last : Label) (made script : List Step) → labels ≡ front ++ last ∷ [] → made ≡ map (pass_for commands) front → script ≡ made ++ pass_for commands last ∷ []
-    → script ≡ map (pass_for commands) labels
-last_pass commands labels front last made script are before more =
-    more ∙ ap (λ steps. steps ++ pass_for commands last ∷ []) before ∙ sym (map-append (pass_for commands) front (last ∷ [])) ∙ ap (map (pass_for commands)) (sym are)

@@ -73,7 +73,8 @@ pub(crate) enum Argument<'a> {
 /// A fault of a flag is told at the first word that has one, counted from 1. After all flags are read, words that are
 /// left beside a command file are a fault.
 pub fn read_flags(alloc: Global, words: &[String]) -> Result<(Flags, &[String]), UsageFault>
-    ensures { result ≢ Err (UsageFault.OutOfMemory no_memory) → map_ok (λ read. (read.0, map string_bytes read.1.now)) result
+    ensures { result ≢ Err (UsageFault.OutOfMemory no_memory)
+        → map_ok (λ read. (read.0, map string_bytes read.1.now)) result
         ≡ spec.flags_of (map string_bytes words.now) }
 {
     let (flags, rest) = read_leading(alloc, words)?;
@@ -89,7 +90,8 @@ pub fn read_flags(alloc: Global, words: &[String]) -> Result<(Flags, &[String]),
 
 /// Reads words until the flags end.
 fn read_leading(alloc: Global, words: &[String]) -> Result<(Flags, &[String]), UsageFault>
-    ensures { result ≢ Err (UsageFault.OutOfMemory no_memory) → map_ok (λ read. (read.0, map string_bytes read.1.now)) result
+    ensures { result ≢ Err (UsageFault.OutOfMemory no_memory)
+        → map_ok (λ read. (read.0, map string_bytes read.1.now)) result
         ≡ spec.leading 1 spec.no_flags None (map string_bytes words.now) }
 {
     let mut flags = Flags {
@@ -129,7 +131,8 @@ fn read_leading(alloc: Global, words: &[String]) -> Result<(Flags, &[String]), U
 
 /// The fault of a word of the command line.
 fn refused(alloc: Global, number: u64, word: &str, fault: FlagFault) -> UsageFault
-    ensures { result ≢ UsageFault.OutOfMemory no_memory → result ≡ spec.refused_as fault (place.refused 0 number word.now) }
+    ensures { result ≢ UsageFault.OutOfMemory no_memory
+        → result ≡ spec.refused_as fault (place.refused 0 number word.now) }
 {
     let refused = match Refused::new(alloc, COMMAND_LINE, number, word) {
         Ok(refused) => refused,

@@ -176,7 +176,7 @@ fn passes_for(
     Ok(script)
 }
 
-/// The same, where the commands are read anew: a command has no copy.
+/// One pass for each label, whose commands are read anew from the words: a command has no copy.
 fn passes_anew(
     alloc: Global,
     words: &[&str],

@@ -1,10 +1,10 @@
-//! What is wrong with the words of a call, by kind, and the text that is told of each kind. `usage.rt` makes a `Mistake`
-//! of each fault of the readers, and shows it.
+//! What is wrong with the words of a call, by kind, and the text that is told of each kind. `usage.rt` makes a
+//! `Mistake` of each fault of the readers, and shows it.
 
 use crate::usage::Refused;
-use bz_label::{LabelFault, NO_SUCH_FIELD, is_left_out_field};
+use bz_label::LabelFault;
 use bz_memory::NoMemory;
-use bz_rule::{CommandFault, LEFT_OUT, USAGE};
+use bz_rule::{CommandFault, LEFT_OUT, NO_SUCH_FIELD, USAGE, is_left_out_field};
 use std::fmt;
 
 /// Told below `cannot open`, where the name of the file begins with a dash.
@@ -321,8 +321,8 @@ fn of_attribute(word: &str) -> &'static str {
     }
 }
 
-/// What is wrong with the number of a command's words. On the command line (`line` 0) a name alone may also be a command
-/// without its quotes.
+/// What is wrong with the number of a command's words. On the command line (`line` 0) a name alone may also be a
+/// command without its quotes.
 fn of_count(word: &str, line: u64) -> Mistake {
     let name = first_word(word);
     let form = form_of(name).unwrap_or("");

@@ -1,4 +1,5 @@
-//! What is told beside the report of words that are read, and that seldom say what is meant: by kind, and the text of each.
+//! What is told beside the report of words that are read, and that seldom say what is meant: by kind, and the text of
+//! each.
 
 ghost use Rattle.std.specs.Prelude.{◌≡◌, ◌≤◌, length, IfOk, IfSome, OnOk, None, true};
 ghost use Rattle.std.specs.List.{list_any};

@@ -6,6 +6,7 @@ use Rattle.std.specs.Char.{is_ascii_digit}
 use Rattle.std.proofs.lemmas.Bool.{cases_Bool, and_parts, or_cases, false≢true, eqb-true, not-true, or_parts}
 use Rattle.std.proofs.Math.Seq.{drop-append-add}
 use Rattle.std.proofs.lemmas.Bool.Decides.{nat_tests, Decides-eqb}
+use Rattle.bz_token.proofs.Units.{gap_step}
 use Rattle.bz_token.specs.declared.token.Kind.{Kind}
 use Rattle.bz_token.specs.declared.token.Kind.TheVariants.{Identifier, Keyword, Integer, String, Operator, Newline, Comment as CommentToken, Kept}
 use Rattle.bz_token.specs.declared.scan_string.Escape.{Escape}
@@ -18,9 +19,9 @@ use Rattle.bz_token.specs.declared.cutter.scan.CutState.{CutState}
 use Rattle.bz_token.specs.declared.cutter.scan.CutState.TheVariants.{Plain, Ended, Backslash, BackslashReturn, Comment, Opened, OpenedTwice, Short, ShortEscape, ShortEscapeReturn, Long, LongQuote, LongTwoQuotes, LongEscape}
 use Rattle.bz_token.specs.declared.cutter.scan.Scan.{Scan}
 use Rattle.bz_token.specs.private.CutSteps.{is_ended, byte_of, at, outside, in_short, in_long, next_in, next, start, run, with_comment}
-use Rattle.bz_token.specs.Pieces.{is_quote}
-use Rattle.bz_token.specs.Lexical.{is_word_byte, is_blank, is_newline, closing_row, are_two, opens_after, opening, opening_length, is_name, is_keyword, operators, is_operator_text, is_text, IsToken}
-use Rattle.bz_token.specs.private.Closing.{closes}
+use Rattle.bz_token.specs.Strings.{is_quote, closing_row, are_two, opens_after, opening}
+use Rattle.bz_token.specs.Lexical.{is_word_byte, is_newline, is_name, is_keyword, operators, is_operator_text, is_text, IsToken}
+use Rattle.bz_token.specs.private.Closing.{closes, opening_length}
 use Rattle.bz_token.specs.Brackets.{is_inside, is_line, is_opening_bracket, is_closing_bracket, fits, open_after_token}
 use Rattle.bz_token.proofs.Classes.{Class, class_of, keyword_name, can_start, text_class, one_of, same_bytes, empty_no_text}
 use Rattle.bz_token.specs.declared.scan_string.Opening.{Opening}
@@ -33,8 +34,10 @@ use Rattle.bz_token.specs.Places.{Placed}
 use Rattle.bz_token.specs.FreshStart.{ends_in_line, AreLinesOf}
 use Rattle.bz_token.proofs.Fitting.{is_bracket_byte, bracket_class, no_bracket}
 use Rattle.bz_token.proofs.Unique.{blank_class, nothing_unknown}
-use Rattle.bz_token.specs.Reading.{is_white, is_gap, continues_gap, feeds_gap, Piece, IsReading, open_after, AreTokensOf}
+use Rattle.bz_token.specs.Reading.{is_gap, Piece, IsReading, open_after, AreTokensOf}
 use Rattle.bz_token.specs.Common.{is_empty}
+use Rattle.bz_token.specs.Pieces.{is_blank, is_white}
+use Rattle.bz_token.specs.private.Gaps.{continues_gap, feeds_gap}
 
 -- the cutter stands here, whatever line it is in
 pub record IsAt (s : Scan) (inside : CutState) (depth : ℕ) : Type 0 where
@@ -343,7 +346,7 @@ mutual
   gap_run inside [] rest s d deep h ready = record { ready = ready; ended = λ e. refl }
   gap_run inside (b ∷ bs) rest s d deep h ready = elim (cases_Bool (is_white inside b)) [
     | inl white ↦
-        let more = rw (white, is_gap) at h in
+        let more = rw white at (sym (gap_step inside b bs) ∙ h) in
         elim (or_cases (is_blank b) (inside && b == 10) white) [
           | inl blank ↦
               let here = blank_ready s d b (bs ++ rest) ready blank in
@@ -359,7 +362,7 @@ mutual
               record { ready = r.ready; ended = λ e. absurd (not_ended (next s b) Plain d here refl (ap (λ t. is_ended t.inside) (run_none bs (next s b) (r.ended e)) ∙ e)) }
         ]
     | inr other ↦
-        let parts = and_parts (b == 92) (continues_gap inside bs) (rw (other, is_gap) at h) in
+        let parts = and_parts (b == 92) (continues_gap inside bs) (rw other at (sym (gap_step inside b bs) ∙ h)) in
         let same : b ≡ 92 = eqb-true b 92 parts.0 in
         let visible : is_blank b ≡ false = ap is_blank same in
         let m = ready_first s d b (bs ++ rest) ready visible in

@@ -8,21 +8,26 @@ use Rattle.std.proofs.lemmas.List.Sums.{take_while-cons}
 use Rattle.bz_token.specs.declared.token.Kind.{Kind}
 use Rattle.bz_token.specs.declared.token.Kind.TheVariants.{Identifier, Keyword, Integer, String, Operator, Newline, Comment, Kept}
 use Rattle.bz_token.specs.declared.scan_string.Opening.{Opening}
-use Rattle.bz_token.specs.Pieces.{is_quote}
-use Rattle.bz_token.specs.Lexical.{is_blank, is_name, is_keyword, is_string, is_closed, opening, IsToken, is_word_byte}
+use Rattle.bz_token.specs.Strings.{is_quote, is_string, opening}
+use Rattle.bz_token.specs.Lexical.{is_name, is_keyword, IsToken, is_word_byte}
 use Rattle.bz_token.specs.Ends.{stops_at, is_prefix}
 use Rattle.bz_token.specs.Brackets.{is_line}
-use Rattle.bz_token.specs.Blocks.{is_white, continues, head_from, word_at, opener_of, opener}
+use Rattle.bz_token.specs.Blocks.{word_at, opener_of, opener}
+use Rattle.bz_token.proofs.Prefixes.{opening_is}
+use Rattle.bz_token.proofs.Units.{opener_is}
 use Rattle.bz_token.proofs.Classes.{can_start, class_of, text_class, keyword_name, empty_no_text}
 use Rattle.bz_token.proofs.Stops.{token_ends}
 use Rattle.bz_token.proofs.Agree.{visible}
 use Rattle.bz_token.proofs.Stands.{apart}
+use Rattle.bz_token.specs.private.Closing.{is_closed}
+use Rattle.bz_token.specs.Pieces.{is_blank, is_white}
+use Rattle.bz_token.specs.private.Gaps.{continues_after, head_from}
 
 -- at a byte that is no white space and no backslash the line's head is there, if this is column 1
 head_here : (first : Bool) (b : ℕ) (bs : List ℕ) → is_blank b ≡ false → (b == 10) ≡ false → (b == 92) ≡ false → head_from first (b ∷ bs) ≡ cond first (b ∷ bs) []
 head_here first b bs blank line slash = let visible = none in rw (visible, head_from) refl
   where
-    none : (is_white b || continues b bs) ≡ false
+    none : (is_white true b || continues_after b bs) ≡ false
     none = rw (blank, line, slash) refl
 
 -- a word that begins with none of d, f and i opens no block
@@ -61,7 +66,7 @@ string_first x text is =
             | inl double ↦ let same : x ≡ 34 = eqb-true x 34 double in rw same refl
             | inr single ↦ let same : x ≡ 39 = eqb-true x 39 single in rw same refl
           ]
-          | inr no_quote ↦ let h : is_some (opening (x ∷ text)) ≡ true = some (opening (x ∷ text)) is in absurd (false≢true (rw (no_r, no_b, no_quote) at h))
+          | inr no_quote ↦ let h : is_some (opening (x ∷ text)) ≡ true = some (opening (x ∷ text)) is in absurd (false≢true (rw (no_r, no_b, no_quote) at (sym (ap is_some (opening_is (x ∷ text))) ∙ h)))
         ]
       ]
     ]
@@ -130,4 +135,4 @@ no_block_from first kind (b ∷ bs) after token line none =
     by false = refl
 
 pub no_block : (kind : Kind) (text after : List ℕ) → IsToken kind text after → is_line kind ≡ false → opener_of text ≡ None → opener (text ++ after) ≡ None
-no_block kind text after token line none = no_block_from true kind text after token line none
+no_block kind text after token line none = opener_is (text ++ after) ∙ no_block_from true kind text after token line none

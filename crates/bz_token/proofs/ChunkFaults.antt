@@ -3,6 +3,7 @@ use Rattle.std.proofs.Common.{◌≡◌, ℕ, ◌<◌, ◌==◌, ◌&&◌, ◌||
 use Rattle.std.specs.Prelude.{Option, Some, None, is_some}
 use Rattle.std.specs.Char.{is_ascii_digit}
 use Rattle.std.proofs.lemmas.Bool.{cases_Bool, false≢true, or_parts, or_right}
+use Rattle.bz_token.proofs.Units.{begins_is}
 use Rattle.bz_token.specs.declared.fault.LexFault.{LexFault}
 use Rattle.bz_token.specs.declared.fault.LexFault.TheVariants as faults
 use Rattle.bz_token.specs.declared.scan_string.Opening.{Opening}
@@ -14,9 +15,9 @@ use Rattle.bz_token.specs.declared.cutter.scan.CutState.TheVariants.{Plain}
 use Rattle.bz_token.specs.private.CutSteps.{is_ended, outside, next, start, run}
 use Rattle.bz_token.specs.Cuts.{EndsBefore, ends_in_newline}
 use Rattle.bz_token.specs.Places.{Placed}
-use Rattle.bz_token.specs.Lexical.{is_blank, is_newline, begins, opening, is_string}
+use Rattle.bz_token.specs.Lexical.{is_newline}
 use Rattle.bz_token.specs.Brackets.{is_inside, is_line, is_opening_bracket, is_closing_bracket, closes_innermost, fits, open_after_token}
-use Rattle.bz_token.specs.Reading.{is_white, continues, begins_gap, Piece, IsReading, open_after, bytes_of, tokens_of}
+use Rattle.bz_token.specs.Reading.{begins_gap, Piece, IsReading, open_after, bytes_of, tokens_of}
 use Rattle.bz_token.specs.Faults.{IsOpenText, IsBadNumber, IsBadBackslash, IsBadCharacter, IsBadBracket, IsTooDeep, IsFaultAt, IsOpenBracket, IsFault}
 use Rattle.bz_token.specs.UpToFault.{read_before, IsReadAs}
 use Rattle.bz_token.specs.FreshStart.{ends_in_line}
@@ -30,6 +31,10 @@ use Rattle.bz_token.proofs.Agree.{Ready, ready_plain, ready_first, gap_run, toke
 use Rattle.bz_token.proofs.FreshChunks.{chunk_ends_line}
 use Rattle.bz_token.proofs.FaultFronts.{has_newline, begins_more, continues_more, opening_same_more, none_more}
 use Rattle.bz_token.proofs.OpenStrings.{string_within}
+use Rattle.bz_token.specs.Common.{begins}
+use Rattle.bz_token.specs.Strings.{opening, is_string}
+use Rattle.bz_token.specs.Pieces.{is_blank, is_white}
+use Rattle.bz_token.specs.private.Gaps.{continues}
 
 -- a logical line ends with a newline
 ended_newline : (b : ℕ) (bs : List ℕ) (s : Scan) → is_ended (run s (b ∷ bs)).inside ≡ true → ends_in_newline (b ∷ bs) ≡ true
@@ -76,7 +81,7 @@ fault_more first depth c r IsBad line col f h bad = (
     place = f.place ++ r;
     reading = subst (λ x. IsReading depth [] f.pieces x (c ++ r)) (append_assoc f.gap f.place r) (reading_more depth [] f.pieces (f.gap ++ f.place) c r f.reading (any_right is_newline f.gap f.place h));
     is_gap = f.is_gap;
-    after_gap = ap₂ (λ x y. x || y) (begins_more (is_white (is_inside (open_after [] f.pieces))) f.place r h) (continues_more f.place r h) ∙ f.after_gap;
+    after_gap = begins_is (is_inside (open_after [] f.pieces)) (f.place ++ r) ∙ ap₂ (λ x y. x || y) (begins_more (is_white (is_inside (open_after [] f.pieces))) f.place r h) (continues_more f.place r h) ∙ sym (begins_is (is_inside (open_after [] f.pieces)) f.place) ∙ f.after_gap;
     bad = bad;
     line_is = f.line_is;
     col_is = f.col_is;
@@ -165,7 +170,7 @@ text_more first depth c r line col f ended h =
   where
     at_first : (place : List ℕ) (s : Scan) (d : ℕ) (inside : Bool) → Ready s d place → begins_gap inside place ≡ false → (b : ℕ) (bs : List ℕ) → place ≡ b ∷ bs → (k : LineKind) × (next s b ≡ outside d k b)
     at_first place s d inside ready none b bs e =
-        let white = (or_parts (is_white inside b) (continues (b ∷ bs)) (subst (λ x. begins_gap inside x ≡ false) e none)).0 in
+        let white = (or_parts (is_white inside b) (continues (b ∷ bs)) (sym (begins_is inside (b ∷ bs)) ∙ subst (λ x. begins_gap inside x ≡ false) e none)).0 in
         let visible = (or_parts (is_blank b) (inside && b == 10) white).0 in
         ready_first s d b bs (subst (λ x. Ready s d x) e ready) visible
 

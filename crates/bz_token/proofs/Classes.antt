@@ -1,5 +1,5 @@
 -- What a token's first byte tells of its kind.
-use Rattle.std.proofs.Common.{◌≡◌, ℕ, ◌==◌, ◌&&◌, List, [], ◌∷◌, Bool, true, false, not, refl, ap, ◌∙◌, arith, inl, inr}
+use Rattle.std.proofs.Common.{◌≡◌, ℕ, ◌==◌, ◌&&◌, List, [], ◌∷◌, Bool, true, false, not, refl, sym, ap, ◌∙◌, arith, inl, inr}
 use Rattle.std.specs.Prelude.{codes, bytes_eq, Option, Some, None, is_some, if◌then◌else◌}
 use Rattle.std.specs.List.{list_all, list_any}
 use Rattle.std.specs.Char.{is_ascii_digit}
@@ -8,9 +8,12 @@ use Rattle.std.proofs.lemmas.Bool.Decides.{nat_tests}
 use Rattle.std.proofs.lemmas.Slice.Eq.{bytes_eq-Decides}
 use Rattle.bz_token.specs.declared.token.Kind.{Kind}
 use Rattle.bz_token.specs.declared.token.Kind.TheVariants.{Identifier, Keyword, Integer, String, Operator, Newline, Comment, Kept}
-use Rattle.bz_token.specs.Pieces.{is_quote}
-use Rattle.bz_token.specs.Lexical.{is_word_byte, is_newline, is_one_of, keywords, is_keyword, operators, is_operator_text, is_name, is_number, are_based, is_string, opening, is_text, begins, ends_blank, is_closed}
+use Rattle.bz_token.specs.Strings.{is_quote, is_string, opening}
+use Rattle.bz_token.specs.Lexical.{is_word_byte, is_newline, is_one_of, keywords, is_keyword, operators, is_operator_text, is_name, is_number, are_based, is_text, ends_blank}
 use Rattle.bz_token.specs.declared.scan_string.Opening.{Opening}
+use Rattle.bz_token.proofs.Prefixes.{opening_is}
+use Rattle.bz_token.specs.Common.{begins}
+use Rattle.bz_token.specs.private.Closing.{is_closed}
 
 pub data Class : Type 0 where
   letter : Class
@@ -102,7 +105,7 @@ opening_starts x text is =
         | inl b ↦ let same : x ≡ 98 = eqb-true x 98 b in rw same refl
         | inr no_b ↦ elim (cases_Bool (is_quote x)) [
           | inl q ↦ rw (quote_class x q) refl
-          | inr no_quote ↦ absurd (false≢true (rw (no_r, no_b, no_quote) at is))
+          | inr no_quote ↦ absurd (false≢true (rw (no_r, no_b, no_quote) at (sym (ap is_some (opening_is (x ∷ text))) ∙ is)))
         ]
       ]
     ]

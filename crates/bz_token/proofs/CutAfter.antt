@@ -1,6 +1,7 @@
 -- What a line does to the cutter's knowledge.
 use Rattle.std.proofs.Common.{◌≡◌, ℕ, ◌<◌, ◌≤◌, List, [], ◌∷◌, ◌++◌, Bool, true, false, not, cond, length, Option, refl, sym, ap, subst, ◌∙◌, arith, inl, inr, append_assoc, append-nil, length-append}
 use Rattle.std.proofs.lemmas.Bool.{cases_Bool, both_ways, and_parts, not-true, false≢true, true≢false}
+use Rattle.bz_token.proofs.Units.{opener_is}
 use Rattle.bz_token.specs.declared.cutter.scan.LineKind.{LineKind}
 use Rattle.bz_token.specs.declared.cutter.scan.LineKind.TheVariants.{Blank, CommentLine, Statement}
 use Rattle.bz_token.specs.declared.cutter.scan.Scan.{Scan}
@@ -86,7 +87,7 @@ now_blank c seen x xs b n h inside e = elim (cases_Bool (is_blank_kind c.scan.ki
       elim (header true (x ∷ xs) n h) [
         | inl r ↦ absurd (both_ways _ inside (ap (λ s. is_ended s.inside) same ∙ r.0))
         | inr r ↦ elim r [
-          | inl g ↦ (λ y. ap (λ s. next s y) (same ∙ g.0), λ more. ap opener (append_assoc b.part (x ∷ xs) more) ∙ (b.blank was).1 ((x ∷ xs) ++ more) ∙ ap (λ t. opener_of (word_at t)) (g.1 more))
+          | inl g ↦ (λ y. ap (λ s. next s y) (same ∙ g.0), λ more. ap opener (append_assoc b.part (x ∷ xs) more) ∙ (b.blank was).1 ((x ∷ xs) ++ more) ∙ opener_is ((x ∷ xs) ++ more) ∙ ap (λ t. opener_of (word_at t)) (g.1 more) ∙ sym (opener_is more))
           | inr g ↦ absurd (both_ways _ g.0 (sym (ap (λ s. is_blank_kind s.kind) same) ∙ e))
         ]
       ]
@@ -101,7 +102,7 @@ now_head c seen x xs b n h e more = elim (cases_Bool (is_blank_kind c.scan.kind)
         | inl r ↦ absurd (both_ways _ e (ap (λ s. is_blank_kind s.kind) same ∙ r.1))
         | inr r ↦ elim r [
           | inl g ↦ absurd (both_ways _ e (ap (λ s. is_blank_kind s.kind) (same ∙ g.0)))
-          | inr g ↦ ap opener (append_assoc b.part (x ∷ xs) more) ∙ (b.blank was).1 ((x ∷ xs) ++ more) ∙ g.1 more ∙ sym (chosen c (x ∷ xs) was)
+          | inr g ↦ ap opener (append_assoc b.part (x ∷ xs) more) ∙ (b.blank was).1 ((x ∷ xs) ++ more) ∙ opener_is ((x ∷ xs) ++ more) ∙ g.1 more ∙ sym (chosen c (x ∷ xs) was)
         ]
       ]
   | inr some ↦ ap opener (append_assoc b.part (x ∷ xs) more) ∙ b.head some ((x ∷ xs) ++ more) ∙ sym (other c (x ∷ xs) some)

@@ -4,12 +4,14 @@ use Rattle.std.proofs.lemmas.Bool.{and_parts, not-true, false≢true}
 use Rattle.std.proofs.lemmas.Bool.Decides.{nat_tests}
 use Rattle.bz_token.specs.declared.cutter.scan.LineKind.TheVariants.{Blank, Statement}
 use Rattle.bz_token.specs.declared.cutter.scan.CutState.TheVariants.{Plain, Backslash, BackslashReturn}
-use Rattle.bz_token.specs.Blocks.{is_white, continues, head_from, word_at, opener_of}
+use Rattle.bz_token.specs.Blocks.{word_at, opener_of}
 use Rattle.bz_token.specs.Cuts.{is_physical_line, ends_in_newline}
 use Rattle.bz_token.specs.private.CutSteps.{is_ended, is_blank_kind, at, outside, next, start, run}
 use Rattle.bz_token.proofs.CutMachine.{line_quiet, kept_kind, run_kind}
 use Rattle.bz_token.proofs.CutSeen.{by_byte}
 use Rattle.bz_token.proofs.CutLaws.{word_stop}
+use Rattle.bz_token.specs.private.Gaps.{continues_after, head_from}
+use Rattle.bz_token.specs.Pieces.{is_white}
 
 pub line_end : (line : List ℕ) → ends_in_newline line ≡ true → (xs : List ℕ) × (line ≡ xs ++ 10 ∷ [])
 line_end [] h = absurd (false≢true h)
@@ -41,34 +43,34 @@ none_twice true word e = rw e refl
 none_twice false word e = refl
 
 -- white space is passed
-head_white : (first : Bool) (b : ℕ) (bs : List ℕ) → is_white b ≡ true → (b == 10) ≡ false → head_from first (b ∷ bs) ≡ head_from false bs
+head_white : (first : Bool) (b : ℕ) (bs : List ℕ) → is_white true b ≡ true → (b == 10) ≡ false → head_from first (b ∷ bs) ≡ head_from false bs
 head_white first b bs white n10 = rw (white, n10, head_from) refl
 
-white_case : (first : Bool) (b : ℕ) (bs : List ℕ) → next start b ≡ start → is_white b ≡ true → (b == 10) ≡ false → word_at (b ∷ bs) ≡ [] → Header false bs → Header first (b ∷ bs)
+white_case : (first : Bool) (b : ℕ) (bs : List ℕ) → next start b ≡ start → is_white true b ≡ true → (b == 10) ≡ false → word_at (b ∷ bs) ≡ [] → Header false bs → Header first (b ∷ bs)
 white_case first b bs stays white n10 word (inl e) = inl (ap (λ s. is_ended (run s bs).inside) stays ∙ e.0, ap (λ s. is_blank_kind (run s bs).kind) stays ∙ e.1)
 white_case first b bs stays white n10 word (inr (inl e)) = inr (inl (ap (λ s. run s bs) stays ∙ e.0, λ more. head_white first b (bs ++ more) white n10 ∙ e.1 more))
 white_case first b bs stays white n10 word (inr (inr e)) =
     inr (inr (ap (λ s. is_blank_kind (run s bs).kind) stays ∙ e.0, λ more. ap (λ t. opener_of (word_at t)) (head_white first b (bs ++ more) white n10) ∙ e.1 more ∙ sym (none_twice first (word_at (b ∷ bs)) word)))
 
 -- anything else is the head
-head_stops : (first : Bool) (b : ℕ) (bs : List ℕ) → (is_white b || continues b bs) ≡ false → head_from first (b ∷ bs) ≡ cond first (b ∷ bs) []
+head_stops : (first : Bool) (b : ℕ) (bs : List ℕ) → (is_white true b || continues_after b bs) ≡ false → head_from first (b ∷ bs) ≡ cond first (b ∷ bs) []
 head_stops first b bs stops = rw (stops, head_from) refl
 
 head_word : (first : Bool) (text line : List ℕ) → word_at text ≡ word_at line → opener_of (word_at (cond first text [])) ≡ cond first (opener_of (word_at line)) None
 head_word true text line e = ap opener_of e
 head_word false text line e = refl
 
-head_case : (first : Bool) (b : ℕ) (bs : List ℕ) → ends_in_newline (b ∷ bs) ≡ true → ((more : List ℕ) → (is_white b || continues b (bs ++ more)) ≡ false) → is_blank_kind (run start (b ∷ bs)).kind ≡ false → Header first (b ∷ bs)
+head_case : (first : Bool) (b : ℕ) (bs : List ℕ) → ends_in_newline (b ∷ bs) ≡ true → ((more : List ℕ) → (is_white true b || continues_after b (bs ++ more)) ≡ false) → is_blank_kind (run start (b ∷ bs)).kind ≡ false → Header first (b ∷ bs)
 head_case first b bs h stops some =
     inr (inr (some, λ more. ap (λ t. opener_of (word_at t)) (head_stops first b (bs ++ more) (stops more)) ∙ head_word first (b ∷ (bs ++ more)) (b ∷ bs) (word_of_line (b ∷ bs) more h)))
 
-some_byte : (d : ℕ) (b : ℕ) → is_white b ≡ false → (b == 92) ≡ false → is_blank_kind (outside d Blank b).kind ≡ false
+some_byte : (d : ℕ) (b : ℕ) → is_white true b ≡ false → (b == 92) ≡ false → is_blank_kind (outside d Blank b).kind ≡ false
 some_byte d b w n92 = grind (arith, nat_tests)
 
-not_continued : (b : ℕ) (bs : List ℕ) → is_white b ≡ false → (b == 92) ≡ false → (is_white b || continues b bs) ≡ false
+not_continued : (b : ℕ) (bs : List ℕ) → is_white true b ≡ false → (b == 92) ≡ false → (is_white true b || continues_after b bs) ≡ false
 not_continued b bs w n92 = rw (w, n92) refl
 
-other_case : (first : Bool) (b : ℕ) (bs : List ℕ) → ends_in_newline (b ∷ bs) ≡ true → is_physical_line (b ∷ bs) ≡ true → is_white b ≡ false → (b == 92) ≡ false → Header first (b ∷ bs)
+other_case : (first : Bool) (b : ℕ) (bs : List ℕ) → ends_in_newline (b ∷ bs) ≡ true → is_physical_line (b ∷ bs) ≡ true → is_white true b ≡ false → (b == 92) ≡ false → Header first (b ∷ bs)
 other_case first b bs h p w n92 =
     head_case first b bs h (λ more. not_continued b (bs ++ more) w n92) (run_kind bs (next start b) (line_quiet b bs start p) (some_byte 0 b w n92))
 
@@ -83,7 +85,7 @@ return_kind c n10 =
     let e : next (at BackslashReturn 0 Blank) c ≡ outside 0 Statement c = rw n10 refl in
     ap (λ s. is_blank_kind s.kind) e ∙ kept_kind Plain 0 Statement c refl refl
 
-return_stops : (d : ℕ) (ds : List ℕ) → (d == 10) ≡ false → (is_white 92 || continues 92 (13 ∷ d ∷ ds)) ≡ false
+return_stops : (d : ℕ) (ds : List ℕ) → (d == 10) ≡ false → (is_white true 92 || continues_after 92 (13 ∷ d ∷ ds)) ≡ false
 return_stops d ds n10 = rw n10 refl
 
 return_case : (first : Bool) (bs : List ℕ) → ends_in_newline (92 ∷ 13 ∷ bs) ≡ true → is_physical_line bs ≡ true → Header first (92 ∷ 13 ∷ bs)
@@ -94,7 +96,7 @@ return_case first (d ∷ e ∷ es) h p =
     head_case first 92 (13 ∷ d ∷ e ∷ es) h (λ more. return_stops d (e ∷ (es ++ more)) n10)
     (run_kind (e ∷ es) (next (at BackslashReturn 0 Blank) d) (line_quiet d (e ∷ es) (at BackslashReturn 0 Blank) p) (return_kind d n10))
 
-backslash_stops : (c d : ℕ) (ds : List ℕ) → (c == 10) ≡ false → (c == 13) ≡ false → (is_white 92 || continues 92 (c ∷ d ∷ ds)) ≡ false
+backslash_stops : (c d : ℕ) (ds : List ℕ) → (c == 10) ≡ false → (c == 13) ≡ false → (is_white true 92 || continues_after 92 (c ∷ d ∷ ds)) ≡ false
 backslash_stops c d ds n10 n13 = rw (n10, n13) refl
 
 backslash_case : (first : Bool) (bs : List ℕ) → ends_in_newline (92 ∷ bs) ≡ true → is_physical_line bs ≡ true → Header first (92 ∷ bs)

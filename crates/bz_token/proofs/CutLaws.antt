@@ -11,7 +11,7 @@ use Rattle.bz_token.specs.declared.cutter.scan.Scan.{Scan}
 use Rattle.bz_token.specs.Groups.{grouped, grouped_from}
 use Rattle.bz_token.specs.LogicalLines.{Line}
 use Rattle.bz_token.specs.Lexical.{is_word_byte}
-use Rattle.bz_token.specs.Blocks.{is_white, word_at, has_branch}
+use Rattle.bz_token.specs.Blocks.{word_at, has_branch}
 use Rattle.bz_token.specs.Chunks.{chunk_goes_on, text_of, chunks}
 use Rattle.bz_token.specs.private.Phases.{phase_after, phase_from, takes}
 use Rattle.bz_token.specs.private.CutSteps.{is_ended, is_broken, line_at, line_here, seen_chunks, outside, next, start}
@@ -20,6 +20,7 @@ use Rattle.bz_token.proofs.CutStrings.{grouped_joins, grouped_apart, seen_step}
 use Rattle.bz_token.proofs.CutMachine.{next_inside}
 use Rattle.bz_token.proofs.CutLines.{lines_are}
 use Rattle.bz_token.proofs.Phases.{phase_takes}
+use Rattle.bz_token.specs.Pieces.{is_white}
 
 pub chunk_step : (s : Scan) (phase : ChunkPhase) (before part : List ℕ) (b : ℕ) (bs : List ℕ) → is_ended s.inside ≡ false → seen_chunks s phase before part (b ∷ bs) ≡ seen_chunks (next s b) phase before (part ++ b ∷ []) bs
 chunk_step s phase before part b bs h = rw (h, seen_chunks) refl
@@ -106,7 +107,7 @@ same_branch If xs ys e = rw e refl
 pub same_takes : (phase : ChunkPhase) (b : ℕ) (xs ys : List ℕ) → word_at (b ∷ xs) ≡ word_at (b ∷ ys) → takes phase (b ∷ xs) ≡ takes phase (b ∷ ys)
 same_takes Comments b xs ys e = refl
 same_takes Done b xs ys e = refl
-same_takes (InBlock word) b xs ys e = ap (λ t. is_white b || t) (same_branch word (b ∷ xs) (b ∷ ys) e)
+same_takes (InBlock word) b xs ys e = ap (λ t. is_white true b || t) (same_branch word (b ∷ xs) (b ∷ ys) e)
 
 pub first_word : (b : ℕ) (more rest : List ℕ) → ((rest ≡ []) ⊎ ((xs : List ℕ) × (b ∷ more ≡ xs ++ 10 ∷ []))) → word_at (b ∷ more) ≡ word_at (b ∷ (more ++ rest))
 first_word b more rest (inl none) = rw (none, append-nil) refl

@@ -4,6 +4,7 @@ use Rattle.std.proofs.lemmas.Bool.{cases_Bool, or_parts, or_cases, and_parts, bo
 use Rattle.std.proofs.lemmas.List.Folds.{list_any-append}
 use Rattle.std.proofs.lemmas.Slice.Eq.{bytes_eq-Decides}
 use Rattle.std.specs.List.{list_any}
+use Rattle.bz_token.proofs.StringForms.{quoted_is}
 use Rattle.bz_token.specs.declared.cutter.scan.LineKind.{LineKind}
 use Rattle.bz_token.specs.declared.cutter.scan.LineKind.TheVariants.{Statement}
 use Rattle.bz_token.specs.declared.cutter.scan.Quote.{Quote}
@@ -11,19 +12,21 @@ use Rattle.bz_token.specs.declared.cutter.scan.Quote.TheVariants.{Single, Double
 use Rattle.bz_token.specs.declared.cutter.scan.CutState.TheVariants.{Plain, Backslash, Comment, Opened, OpenedTwice, Long}
 use Rattle.bz_token.specs.Groups.{grouped_from}
 use Rattle.bz_token.specs.Munch.{IsLongest}
-use Rattle.bz_token.specs.Pieces.{is_byte, escape_takes, units, but_last, is_quote, stops_short, three_in_a_row, is_one, is_comment, is_continued, is_short_string, is_long_string, is_broken_off, is_piece}
+use Rattle.bz_token.specs.Pieces.{is_one, is_comment, is_continued, is_quoted, is_piece, is_space}
 use Rattle.bz_token.specs.private.CutSteps.{byte_of, at, with_comment, in_short, next}
 use Rattle.bz_token.proofs.CutSeen.{seen_lines, by_byte, plain_byte, comment_run, after_piece}
 use Rattle.bz_token.proofs.CutStrings.{grouped_joins, grouped_apart, but_last_cons, short_run, short_from, stop_last, long_run, long_from, three_step, three_now, third, row, short_end}
+use Rattle.bz_token.specs.Strings.{is_byte, escape_takes, units, but_last, is_quote}
+use Rattle.bz_token.specs.private.StringPieces.{stops_short, breaks_short, three_in_a_row, is_short_string, is_long_string}
 
 comment_piece : (t : List ℕ) → is_comment t ≡ true → is_piece t ≡ true
-comment_piece t h = or_left _ _ (or_left _ _ (or_left _ _ (or_right (is_one t) (is_comment t) h)))
+comment_piece t h = or_left _ _ (or_left _ _ (or_right (is_one (λ b. true) t) (is_comment t) h))
 
 short_piece : (t : List ℕ) → is_short_string t ≡ true → is_piece t ≡ true
-short_piece t h = or_left _ _ (or_right _ (is_short_string t) h)
+short_piece t h = or_right _ (is_quoted t) (quoted_is t ∙ or_left _ _ h)
 
 long_piece : (t : List ℕ) → is_long_string t ≡ true → is_piece t ≡ true
-long_piece t h = or_right _ (is_long_string t) h
+long_piece t h = or_right _ (is_quoted t) (quoted_is t ∙ or_right (is_short_string t) _ h)
 
 -- no piece has one byte more
 follow : (p : List ℕ) (x : ℕ) (xs : List ℕ) → IsLongest is_piece p (x ∷ xs) → is_piece (p ++ x ∷ []) ≡ true → ⊥
@@ -37,11 +40,15 @@ comment_end bs (x ∷ xs) d k seen none l = by_byte (λ y. IsLongest is_piece (3
     let e : list_any (λ c. c == 10) (bs ++ x ∷ []) ≡ false = rw (list_any-append, none, n10) refl in
     absurd (follow (35 ∷ bs) x xs m (comment_piece (35 ∷ (bs ++ x ∷ [])) (rw e refl)))) l
 
+comment_no_space : (bs : List ℕ) → is_space true (35 ∷ bs) ≡ false
+comment_no_space [] = refl
+comment_no_space (b ∷ bs) = refl
+
 comment_passes : (bs after : List ℕ) (d : ℕ) (k : LineKind) (seen : List ℕ) → list_any (λ c. c == 10) bs ≡ false → IsLongest is_piece (35 ∷ bs) after → seen_lines (at Plain d k) seen ((35 ∷ bs) ++ after) ≡ seen_lines (after_piece d k (35 ∷ bs)) (seen ++ (35 ∷ bs)) after
 comment_passes bs after d k seen none l =
     comment_run bs after d (with_comment k) (seen ++ 35 ∷ []) none
     ∙ comment_end bs after d (with_comment k) ((seen ++ 35 ∷ []) ++ bs) none l
-    ∙ rw (append_assoc, none) refl
+    ∙ rw (append_assoc, none, comment_no_space bs) refl
 
 -- a backslash that continues no line
 backslash_end : (after : List ℕ) (d : ℕ) (k : LineKind) (seen : List ℕ) → IsLongest is_piece (92 ∷ []) after → seen_lines (at Backslash d k) seen after ≡ seen_lines (at Plain d Statement) seen after
@@ -149,8 +156,8 @@ short_more quote b bs after d k seen h l = elim (cases_Bool (b == byte_of quote)
 short_passes : (quote : Quote) (bs after : List ℕ) (d : ℕ) (k : LineKind) (seen : List ℕ) → is_short_string (byte_of quote ∷ bs) ≡ true → IsLongest is_piece (byte_of quote ∷ bs) after → seen_lines (at Plain d k) seen ((byte_of quote ∷ bs) ++ after) ≡ seen_lines (after_piece d k (byte_of quote ∷ bs)) (seen ++ (byte_of quote ∷ bs)) after
 short_passes Single [] [] d k seen h l = refl
 short_passes Double [] [] d k seen h l = refl
-short_passes Single [] (x ∷ xs) d k seen h l = absurd (follow (39 ∷ []) x xs l refl)
-short_passes Double [] (x ∷ xs) d k seen h l = absurd (follow (34 ∷ []) x xs l refl)
+short_passes Single [] (x ∷ xs) d k seen h l = absurd (follow (39 ∷ []) x xs l (short_piece (39 ∷ x ∷ []) refl))
+short_passes Double [] (x ∷ xs) d k seen h l = absurd (follow (34 ∷ []) x xs l (short_piece (34 ∷ x ∷ []) refl))
 short_passes quote (b ∷ bs) after d k seen h l =
     opened quote b bs after d k seen
     ∙ short_more quote b bs after d k ((seen ++ byte_of quote ∷ []) ++ b ∷ []) h l
@@ -159,9 +166,9 @@ short_passes quote (b ∷ bs) after d k seen h l =
 -- a string of three quotes and more
 long_after : (quote : Quote) (bs : List ℕ) (d : ℕ) (k : LineKind) → after_piece d k (byte_of quote ∷ byte_of quote ∷ byte_of quote ∷ bs) ≡ at Plain d Statement
 long_after Single bs d k =
-    let broken : is_broken_off (39 ∷ 39 ∷ 39 ∷ bs) ≡ false = simp (but_last_cons escape_takes (39 ∷ []) (39 ∷ []) bs) in simp broken
+    let broken : breaks_short (39 ∷ 39 ∷ 39 ∷ bs) ≡ false = simp (but_last_cons escape_takes (39 ∷ []) (39 ∷ []) bs) in simp broken
 long_after Double bs d k =
-    let broken : is_broken_off (34 ∷ 34 ∷ 34 ∷ bs) ≡ false = simp (but_last_cons escape_takes (34 ∷ []) (34 ∷ []) bs) in simp broken
+    let broken : breaks_short (34 ∷ 34 ∷ 34 ∷ bs) ≡ false = simp (but_last_cons escape_takes (34 ∷ []) (34 ∷ []) bs) in simp broken
 
 long_early : (quote : Quote) (bs : List ℕ) → is_long_string (byte_of quote ∷ byte_of quote ∷ byte_of quote ∷ bs) ≡ true → three_in_a_row (byte_of quote) 0 (but_last (units bs)) ≡ false
 long_early Single bs h = not-true _ h
@@ -219,7 +226,7 @@ quoted P q h double single = elim (or_cases (q == 34) (q == 39) h) [
 abbrev Passes : List ℕ → List ℕ → Type 0
 Passes p after = (d : ℕ) (k : LineKind) (seen : List ℕ) → IsLongest is_piece p after → seen_lines (at Plain d k) seen (p ++ after) ≡ seen_lines (after_piece d k p) (seen ++ p) after
 
-from_one : (p after : List ℕ) → is_one p ≡ true → Passes p after
+from_one : (p after : List ℕ) → is_one (λ b. true) p ≡ true → Passes p after
 from_one [] after h d k seen l = cc
 from_one (b ∷ []) after h d k seen l = one_passes b after d k seen l
 from_one (b ∷ c ∷ bs) after h d k seen l = cc
@@ -229,7 +236,7 @@ from_comment [] after h d k seen l = cc
 from_comment (b ∷ bs) after h d k seen l =
     let parts = and_parts (b == 35) (not (list_any (λ c. c == 10) bs)) h in
     let e = eqb-true b 35 parts.0 in
-    rw e (comment_passes bs after d k seen (not-true _ parts.1) (rw e at l))
+    subst (λ x. Passes (x ∷ bs) after) (sym e) (λ n j s m. comment_passes bs after n j s (not-true _ parts.1) m) d k seen l
 
 from_continued : (p after : List ℕ) → is_continued p ≡ true → Passes p after
 from_continued p after h d k seen l = elim (or_cases _ _ h) [
@@ -263,15 +270,15 @@ from_long (a ∷ b ∷ c ∷ bs) after h d k seen l =
 -- after a piece the steps are where its kind says
 pub passes : (p after : List ℕ) → Passes p after
 passes p after d k seen l = elim (or_cases _ _ l.whole) [
-  | inl four ↦ elim (or_cases _ _ four) [
-    | inl three ↦ elim (or_cases _ _ three) [
-      | inl two ↦ elim (or_cases (is_one p) (is_comment p) two) [
-        | inl one ↦ from_one p after one d k seen l
-        | inr comment ↦ from_comment p after comment d k seen l
-      ]
-      | inr continued ↦ from_continued p after continued d k seen l
+  | inl three ↦ elim (or_cases _ _ three) [
+    | inl two ↦ elim (or_cases (is_one (λ b. true) p) (is_comment p) two) [
+      | inl one ↦ from_one p after one d k seen l
+      | inr comment ↦ from_comment p after comment d k seen l
     ]
-    | inr short ↦ from_short p after short d k seen l
+    | inr continued ↦ from_continued p after continued d k seen l
   ]
-  | inr long ↦ from_long p after long d k seen l
+  | inr string ↦ elim (or_cases (is_short_string p) (is_long_string p) (sym (quoted_is p) ∙ string)) [
+    | inl short ↦ from_short p after short d k seen l
+    | inr long ↦ from_long p after long d k seen l
+  ]
 ]

@@ -105,13 +105,6 @@ statement_run d bytes i =
     let s : Scan = at Plain d Statement in
     same_taken s bytes i (prefix_len (passes Stretch.Statement) (drop i bytes)) (run_same s (passes Stretch.Statement) (quiet_same d) (drop i bytes))
 
--- what holds of a statement at its depth holds of this one
-pub statement_state : (s : Scan) (bytes : List ℕ) (i j : ℕ) → s.inside ≡ Plain → s.kind ≡ Statement → IsSame (at Plain s.depth Statement) bytes i j → IsSame s bytes i j
-statement_state s bytes i j e f same = by s.inside s.kind e f
-  where
-    by : (t : CutState) (k : LineKind) → t ≡ Plain → k ≡ Statement → IsSame (at t s.depth k) bytes i j
-    by t k e f = rw (e, f) same
-
 -- in a string and in a comment
 short_run : (s : Scan) (q : Quote) (bs : List ℕ) → s.inside ≡ Short q → run s (take (prefix_len (is_plain (byte_of q)) bs) bs) ≡ s
 short_run s q bs e = by s.inside s.depth s.kind e

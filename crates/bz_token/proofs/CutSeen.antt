@@ -7,9 +7,11 @@ use Rattle.bz_token.specs.declared.cutter.scan.LineKind.TheVariants.{Statement}
 use Rattle.bz_token.specs.declared.cutter.scan.CutState.{CutState}
 use Rattle.bz_token.specs.declared.cutter.scan.CutState.TheVariants.{Plain, Ended, BrokenOff, Backslash, BackslashReturn, Comment}
 use Rattle.bz_token.specs.declared.cutter.scan.Scan.{Scan}
-use Rattle.bz_token.specs.Pieces.{is_byte, is_comment, is_broken_off}
-use Rattle.bz_token.specs.LogicalLines.{Line, is_gap, count}
-use Rattle.bz_token.specs.private.CutSteps.{is_ended, is_broken, line_at, at, with_comment, outside, next}
+use Rattle.bz_token.specs.Pieces.{is_comment, is_space}
+use Rattle.bz_token.specs.private.StringPieces.{breaks_short}
+use Rattle.bz_token.specs.LogicalLines.{Line}
+use Rattle.bz_token.specs.private.CutSteps.{is_ended, is_broken, line_at, at, with_comment, outside, next, count}
+use Rattle.bz_token.specs.Strings.{is_byte}
 
 -- a backslash that is still open continues no line at the end
 abbrev pub final_kind : CutState → LineKind → LineKind
@@ -26,10 +28,10 @@ seen_lines s seen (b ∷ bs) = elim (is_ended s.inside) [
 
 -- the state after a piece
 abbrev pub kind_with : LineKind → List ℕ → LineKind
-kind_with k p = cond (is_gap p) k (cond (is_comment p) (with_comment k) Statement)
+kind_with k p = cond (is_space true p) k (cond (is_comment p) (with_comment k) Statement)
 
 abbrev pub after_piece : ℕ → LineKind → List ℕ → Scan
-after_piece d k p = at (cond (is_broken_off p) BrokenOff (cond (is_byte 10 p && d == 0) Ended Plain)) (count d p) (kind_with k p)
+after_piece d k p = at (cond (breaks_short p) BrokenOff (cond (is_byte 10 p && d == 0) Ended Plain)) (count d p) (kind_with k p)
 
 -- what holds at c and elsewhere
 pub by_byte : (P : ℕ → Type 0) (c b : ℕ) → P c → ((b == c) ≡ false → P b) → P b

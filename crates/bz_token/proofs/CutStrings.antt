@@ -11,9 +11,10 @@ use Rattle.bz_token.specs.declared.cutter.scan.CutState.{CutState}
 use Rattle.bz_token.specs.declared.cutter.scan.CutState.TheVariants.{Plain, BrokenOff, Short, ShortEscape, ShortEscapeReturn, Long, LongQuote, LongTwoQuotes, LongEscape}
 use Rattle.bz_token.specs.declared.cutter.scan.Scan.{Scan}
 use Rattle.bz_token.specs.Groups.{grouped_from}
-use Rattle.bz_token.specs.Pieces.{is_byte, escape_takes, but_last, stops_short, three_in_a_row}
+use Rattle.bz_token.specs.Strings.{is_byte, escape_takes, but_last}
 use Rattle.bz_token.specs.private.CutSteps.{is_ended, is_broken, byte_of, at, in_short, next}
 use Rattle.bz_token.proofs.CutSeen.{seen_lines, final_kind, by_byte}
+use Rattle.bz_token.specs.private.StringPieces.{stops_short, three_in_a_row}
 
 pub grouped_joins : {A : Type 0} (joins : List A → A → Bool) (g : List A) (x : A) (xs : List A) → joins g x ≡ true → grouped_from joins g (x ∷ xs) ≡ grouped_from joins (g ++ x ∷ []) xs
 grouped_joins joins g x xs h = rw (h, grouped_from) refl

@@ -10,8 +10,9 @@ use Rattle.bz_token.specs.declared.cutter.block.Opener.TheVariants.{Def, For, If
 use Rattle.bz_token.specs.declared.cutter.Next.{Next}
 use Rattle.bz_token.specs.declared.cutter.Next.TheVariants.{Goes, Ends, Short}
 use Rattle.bz_token.specs.Lexical.{is_word_byte}
-use Rattle.bz_token.specs.Blocks.{is_white, word_at, has_branch, goes_on}
+use Rattle.bz_token.specs.Blocks.{word_at, has_branch, goes_on}
 use Rattle.bz_token.specs.private.Decided.{DecidesAhead, is_branch_front}
+use Rattle.bz_token.specs.Pieces.{is_white}
 
 word_cons : (b : ℕ) (bs : List ℕ) → word_at (b ∷ bs) ≡ cond (is_word_byte b) (b ∷ word_at bs) []
 word_cons b bs = take_while-cons is_word_byte b bs
@@ -140,14 +141,14 @@ undecided word [] h = ((32 ∷ [], refl), (120 ∷ [], x_stops word))
 undecided word (a ∷ as_) h = absurd (omega (arith, h))
 
 -- past white space the branches alone decide
-goes_branch : (a : ℕ) (bs : List ℕ) → is_white a ≡ false → goes_on If (a ∷ bs) ≡ has_branch If (a ∷ bs)
+goes_branch : (a : ℕ) (bs : List ℕ) → is_white true a ≡ false → goes_on If (a ∷ bs) ≡ has_branch If (a ∷ bs)
 goes_branch a bs w = ap (λ t. t || has_branch If (a ∷ bs)) w
 
-decides_branch : (next : Next) (at_end : Bool) (a : ℕ) (bs : List ℕ) → is_white a ≡ false → DecidesAhead (has_branch If) next at_end (a ∷ bs) → DecidesAhead (goes_on If) next at_end (a ∷ bs)
+decides_branch : (next : Next) (at_end : Bool) (a : ℕ) (bs : List ℕ) → is_white true a ≡ false → DecidesAhead (has_branch If) next at_end (a ∷ bs) → DecidesAhead (goes_on If) next at_end (a ∷ bs)
 decides_branch Goes at_end a bs w d = λ rest last. goes_branch a (bs ++ rest) w ∙ d rest last
 decides_branch Ends at_end a bs w d = λ rest last. goes_branch a (bs ++ rest) w ∙ d rest last
 decides_branch Short at_end a bs w d = (d.0, d.1, (d.2.0, goes_branch a (bs ++ d.2.0) w ∙ d.2.1), (d.3.0, goes_branch a (bs ++ d.3.0) w ∙ d.3.1))
 
-pub decides_if : (word : Opener) (next : Next) (at_end : Bool) (ahead : List ℕ) → word ≡ If → 1 ≤ length ahead → is_white (get_or ahead 0 0) ≡ false → DecidesAhead (has_branch If) next at_end ahead → DecidesAhead (goes_on word) next at_end ahead
+pub decides_if : (word : Opener) (next : Next) (at_end : Bool) (ahead : List ℕ) → word ≡ If → 1 ≤ length ahead → is_white true (get_or ahead 0 0) ≡ false → DecidesAhead (has_branch If) next at_end ahead → DecidesAhead (goes_on word) next at_end ahead
 decides_if word next at_end [] is some w d = absurd (omega (arith, some))
 decides_if word next at_end (a ∷ bs) is some w d = rw is (decides_branch next at_end a bs w d)

@@ -4,7 +4,7 @@ use Rattle.std.specs.List.{list_all, list_any}
 use Rattle.std.proofs.lemmas.Bool.{false≢true}
 use Rattle.bz_token.specs.declared.token.Kind.{Kind}
 use Rattle.bz_token.specs.declared.token.Kind.TheVariants.{Identifier, Keyword, Integer, String, Operator, Newline, Comment, Kept}
-use Rattle.bz_token.specs.Lexical.{is_newline, is_blank, is_text, IsToken}
+use Rattle.bz_token.specs.Lexical.{is_newline, is_text, IsToken}
 use Rattle.bz_token.specs.Ends.{ends, stops_at}
 use Rattle.bz_token.specs.Brackets.{is_line, fits, open_after_token}
 use Rattle.bz_token.specs.Reading.{Piece, IsReading, open_after, bytes_of}
@@ -13,6 +13,7 @@ use Rattle.bz_token.proofs.Ends.{line_token}
 use Rattle.bz_token.proofs.Stops.{token_ended, token_ends}
 use Rattle.bz_token.proofs.Progress.{reading_bytes}
 use Rattle.bz_token.proofs.Joins.{comment_more, line_kind, line_text, any_right, lines_newline}
+use Rattle.bz_token.specs.Pieces.{is_blank}
 
 first_less : (kind : Kind) (text after b : List ℕ) → stops_at kind text (after ++ b) ≡ true → stops_at kind text after ≡ true
 first_less kind text [] b stop = refl

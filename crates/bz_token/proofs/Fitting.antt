@@ -1,13 +1,16 @@
 -- Tokens and the brackets that are open where they stand.
 use Rattle.std.proofs.Common.{◌≡◌, ℕ, zero, suc, ◌<◌, ◌≤◌, ◌==◌, ◌&&◌, ◌||◌, List, [], ◌∷◌, ◌++◌, length, take, get_or, Bool, true, false, not, refl, sym, ap, subst, ◌∙◌, arith, inl, inr}
 use Rattle.std.proofs.lemmas.Bool.{cases_Bool, or_cases, false≢true, eqb-true, and_from, or_parts}
+use Rattle.bz_token.proofs.Units.{begins_is}
 use Rattle.bz_token.specs.declared.token.Kind.{Kind}
 use Rattle.bz_token.specs.declared.token.Kind.TheVariants.{Identifier, Keyword, Integer, String, Operator, Newline, Comment, Kept}
 use Rattle.bz_token.specs.Lexical.{operators, is_operator_text, is_text}
 use Rattle.bz_token.specs.Brackets.{is_inside, is_opening_bracket, is_closing_bracket, is_line, bracket_fits, fits, open_after_token}
-use Rattle.bz_token.specs.Reading.{begins_gap, is_white, continues}
+use Rattle.bz_token.specs.Reading.{begins_gap}
 use Rattle.bz_token.proofs.Classes.{mark, class_of, can_start, text_class, one_of, same_bytes}
 use Rattle.bz_token.proofs.Scanning.{marks}
+use Rattle.bz_token.specs.Pieces.{is_white}
+use Rattle.bz_token.specs.private.Gaps.{continues}
 
 abbrev pub is_bracket_byte : ℕ → Bool
 is_bracket_byte b = is_opening_bracket b || is_closing_bracket b
@@ -77,7 +80,7 @@ fits_first depth kind opened b [] following is gap fit = and_from _ _ (outside k
     newline (a ∷ opened) same none = absurd (false≢true (sym none ∙ rw same refl))
 
     outside : (kind : Kind) → is_text kind (b ∷ []) ≡ true → not (is_line kind && is_inside opened) ≡ true
-    outside Newline is = newline opened (first_same (same_bytes (b ∷ []) (10 ∷ []) is)) (or_parts (is_white (is_inside opened) b) (continues (b ∷ following)) gap).0
+    outside Newline is = newline opened (first_same (same_bytes (b ∷ []) (10 ∷ []) is)) (or_parts (is_white (is_inside opened) b) (continues (b ∷ following)) (sym (begins_is (is_inside opened) (b ∷ following)) ∙ gap)).0
       where
         first_same : b ∷ [] ≡ 10 ∷ [] → b ≡ 10
         first_same e = cc

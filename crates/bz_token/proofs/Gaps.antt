@@ -9,12 +9,16 @@ use Rattle.std.specs.List.{list_any, prefix_len}
 use Rattle.std.specs.Simd.Lanes.{zip2, mask_l, top}
 use Rattle.std.specs.Int.Count.{count_trailing_zeros}
 use Rattle.std.proofs.lemmas.Simd.{bitmask_splat, trailing_mask_l}
-use Rattle.bz_token.specs.Lexical.{is_blank, is_newline, begins, ends_blank, is_comment}
-use Rattle.bz_token.specs.Reading.{is_white, is_gap, continues_gap}
+use Rattle.bz_token.proofs.Units.{gap_step}
+use Rattle.bz_token.specs.Lexical.{is_newline, ends_blank, is_comment}
+use Rattle.bz_token.specs.Reading.{is_gap}
+use Rattle.bz_token.specs.Common.{begins}
+use Rattle.bz_token.specs.Pieces.{is_blank, is_white}
+use Rattle.bz_token.specs.private.Gaps.{continues_gap}
 
 -- a run of white space
 white_step : (inside : Bool) (b : ℕ) (ys : List ℕ) → is_white inside b ≡ true → is_gap inside (b ∷ ys) ≡ is_gap inside ys
-white_step inside b ys h = by (is_white inside b) h
+white_step inside b ys h = gap_step inside b ys ∙ by (is_white inside b) h
   where
     by : (t : Bool) → t ≡ true → elim t [ true ↦ is_gap inside ys | false ↦ b == 92 && continues_gap inside ys ] ≡ is_gap inside ys
     by true h = refl

@@ -3,12 +3,13 @@ use Rattle.std.proofs.Common.{◌≡◌, ℕ, zero, suc, ◌+◌, ◌<◌, ◌�
 use Rattle.std.specs.Prelude.{if◌then◌else◌}
 use Rattle.std.proofs.lemmas.List.{drop-drop}
 use Rattle.bz_token.specs.Places.{Placed, placed}
-use Rattle.bz_token.specs.Brackets.{is_bracket, is_opening_bracket, is_closing_bracket, open_tokens}
+use Rattle.bz_token.specs.Brackets.{is_opening_bracket, is_closing_bracket, open_tokens}
 use Rattle.bz_token.specs.declared.token.Token.{Token}
+use Rattle.bz_token.specs.Pieces.{is_one}
 
 -- the open brackets after one token more
 abbrev pub step : List Placed → Placed → List Placed
-step opened t = if is_bracket is_opening_bracket t.text then t ∷ opened else (if is_bracket is_closing_bracket t.text then drop 1 opened else opened)
+step opened t = if is_one is_opening_bracket t.text then t ∷ opened else (if is_one is_closing_bracket t.text then drop 1 opened else opened)
 
 pub open_tokens-push : (opened ts : List Placed) (t : Placed) → open_tokens opened (ts ++ t ∷ []) ≡ step (open_tokens opened ts) t
 open_tokens-push opened [] t = refl
@@ -32,13 +33,13 @@ last_step ts i d h =
     ∙ open_tokens-push [] (map placed (take i ts)) (placed (get_or ts i d))
 
 -- an opening bracket, a closing one, and another token
-pub step_opening : (opened : List Placed) (t : Placed) → is_bracket is_opening_bracket t.text ≡ true → step opened t ≡ t ∷ opened
+pub step_opening : (opened : List Placed) (t : Placed) → is_one is_opening_bracket t.text ≡ true → step opened t ≡ t ∷ opened
 step_opening opened t h = rw h refl
 
-pub step_closing : (opened : List Placed) (t : Placed) → is_bracket is_opening_bracket t.text ≡ false → is_bracket is_closing_bracket t.text ≡ true → step opened t ≡ drop 1 opened
+pub step_closing : (opened : List Placed) (t : Placed) → is_one is_opening_bracket t.text ≡ false → is_one is_closing_bracket t.text ≡ true → step opened t ≡ drop 1 opened
 step_closing opened t none h = rw (none, h) refl
 
-pub step_neither : (opened : List Placed) (t : Placed) → is_bracket is_opening_bracket t.text ≡ false → is_bracket is_closing_bracket t.text ≡ false → step opened t ≡ opened
+pub step_neither : (opened : List Placed) (t : Placed) → is_one is_opening_bracket t.text ≡ false → is_one is_closing_bracket t.text ≡ false → step opened t ≡ opened
 step_neither opened t none no_closing = rw (none, no_closing) refl
 
 -- the same with the count of closing brackets met
@@ -47,26 +48,26 @@ at_last ts i d some fits =
     let e : i - 1 + 1 ≡ i = omega arith in
     ap (λ k. open_tokens [] (map placed (take k ts))) (sym e) ∙ last_step ts (i - 1) d (omega arith)
 
-pub met_closing : (ts : List Token) (i closed : ℕ) (d : Token) → 0 < i → i ≤ length ts → is_bracket is_opening_bracket (get_or ts (i - 1) d).text.now ≡ false → is_bracket is_closing_bracket (get_or ts (i - 1) d).text.now ≡ true
+pub met_closing : (ts : List Token) (i closed : ℕ) (d : Token) → 0 < i → i ≤ length ts → is_one is_opening_bracket (get_or ts (i - 1) d).text.now ≡ false → is_one is_closing_bracket (get_or ts (i - 1) d).text.now ≡ true
     → open_tokens [] (map placed ts) ≡ drop closed (open_tokens [] (map placed (take i ts))) → open_tokens [] (map placed ts) ≡ drop (closed + 1) (open_tokens [] (map placed (take (i - 1) ts)))
 met_closing ts i closed d some fits none closing all =
     let before = open_tokens [] (map placed (take (i - 1) ts)) in
     let e : 1 + closed ≡ closed + 1 = omega arith in
     all ∙ ap (drop closed) (at_last ts i d some fits ∙ step_closing before (placed (get_or ts (i - 1) d)) none closing) ∙ drop-drop closed 1 before ∙ ap (λ k. drop k before) e
 
-pub met_opening : (ts : List Token) (i closed : ℕ) (d : Token) → 0 < i → i ≤ length ts → 0 < closed → is_bracket is_opening_bracket (get_or ts (i - 1) d).text.now ≡ true
+pub met_opening : (ts : List Token) (i closed : ℕ) (d : Token) → 0 < i → i ≤ length ts → 0 < closed → is_one is_opening_bracket (get_or ts (i - 1) d).text.now ≡ true
     → open_tokens [] (map placed ts) ≡ drop closed (open_tokens [] (map placed (take i ts))) → open_tokens [] (map placed ts) ≡ drop (closed - 1) (open_tokens [] (map placed (take (i - 1) ts)))
 met_opening ts i zero d some fits more opening all = absurd (omega arith)
 met_opening ts i (suc closed) d some fits more opening all =
     let before = open_tokens [] (map placed (take (i - 1) ts)) in
     rw sub-one (all ∙ ap (drop (suc closed)) (at_last ts i d some fits ∙ step_opening before (placed (get_or ts (i - 1) d)) opening))
 
-pub met_neither : (ts : List Token) (i closed : ℕ) (d : Token) → 0 < i → i ≤ length ts → is_bracket is_opening_bracket (get_or ts (i - 1) d).text.now ≡ false → is_bracket is_closing_bracket (get_or ts (i - 1) d).text.now ≡ false
+pub met_neither : (ts : List Token) (i closed : ℕ) (d : Token) → 0 < i → i ≤ length ts → is_one is_opening_bracket (get_or ts (i - 1) d).text.now ≡ false → is_one is_closing_bracket (get_or ts (i - 1) d).text.now ≡ false
     → open_tokens [] (map placed ts) ≡ drop closed (open_tokens [] (map placed (take i ts))) → open_tokens [] (map placed ts) ≡ drop closed (open_tokens [] (map placed (take (i - 1) ts)))
 met_neither ts i closed d some fits none no_closing all =
     all ∙ ap (drop closed) (at_last ts i d some fits ∙ step_neither (open_tokens [] (map placed (take (i - 1) ts))) (placed (get_or ts (i - 1) d)) none no_closing)
 
-pub met_last : (ts : List Token) (i closed : ℕ) (d : Token) → 0 < i → i ≤ length ts → closed ≤ 0 → is_bracket is_opening_bracket (get_or ts (i - 1) d).text.now ≡ true
+pub met_last : (ts : List Token) (i closed : ℕ) (d : Token) → 0 < i → i ≤ length ts → closed ≤ 0 → is_one is_opening_bracket (get_or ts (i - 1) d).text.now ≡ true
     → open_tokens [] (map placed ts) ≡ drop closed (open_tokens [] (map placed (take i ts))) → open_tokens [] (map placed ts) ≡ placed (get_or ts (i - 1) d) ∷ open_tokens [] (map placed (take (i - 1) ts))
 met_last ts i zero d some fits none opening all = all ∙ at_last ts i d some fits ∙ step_opening (open_tokens [] (map placed (take (i - 1) ts))) (placed (get_or ts (i - 1) d)) opening
 met_last ts i (suc closed) d some fits none opening all = absurd (omega arith)

@@ -8,7 +8,7 @@ use Rattle.std.proofs.lemmas.List.Folds.{list_any-append}
 use Rattle.bz_token.specs.declared.token.Kind.{Kind}
 use Rattle.bz_token.specs.declared.token.Kind.TheVariants.{Identifier, Keyword, Integer, String, Operator, Newline, Comment, Kept}
 use Rattle.bz_token.specs.Places.{Placed, line_at, column_from, column_at}
-use Rattle.bz_token.specs.Lexical.{is_newline, is_blank, is_text, IsToken}
+use Rattle.bz_token.specs.Lexical.{is_newline, is_text, IsToken}
 use Rattle.bz_token.specs.Ends.{ends, stops_at}
 use Rattle.bz_token.specs.Brackets.{is_line, open_after_token}
 use Rattle.bz_token.specs.Reading.{Piece, IsPiece, IsReading, open_after, bytes_of, token_of, tokens_of, AreTokensOf}
@@ -17,6 +17,7 @@ use Rattle.bz_token.proofs.Classes.{same_bytes}
 use Rattle.bz_token.proofs.Ends.{line_token}
 use Rattle.bz_token.proofs.Stops.{token_ended, token_ends}
 use Rattle.bz_token.proofs.Progress.{newlines, newlines-append, column_from-append, reading_bytes, lines_of}
+use Rattle.bz_token.specs.Pieces.{is_blank}
 
 -- white space up to a newline stays so, whatever follows
 pub comment_more : (after b : List ℕ) → list_any is_newline after ≡ true → take (prefix_len (λ c. not (is_newline c)) (after ++ b)) (after ++ b) ≡ take (prefix_len (λ c. not (is_newline c)) after) after

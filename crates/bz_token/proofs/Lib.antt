@@ -1,10 +1,14 @@
 mod TokenExamples
+mod StringExamples
 pub mod Strings
 pub mod Blocks
 pub mod WordBlocks
 pub mod PlainStrings
 pub mod Gaps
 pub mod Stack
+mod Prefixes
+mod StringForms
+pub mod Units
 pub mod Classes
 pub mod Keywords
 pub mod Marks
@@ -61,6 +65,4 @@ pub mod FirstLines
 pub mod LineEnds
 pub mod LineFronts
 pub mod LinesRead
-pub mod OpenLines
-pub mod Stopped
 mod ChunkExamples

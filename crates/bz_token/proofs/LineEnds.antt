@@ -4,30 +4,32 @@ use Rattle.std.specs.Prelude.{codes, bytes_eq, is_some, None, if◌then◌else�
 use Rattle.std.specs.List.{list_all, list_any}
 use Rattle.std.proofs.lemmas.Bool.{cases_Bool, and_parts, or_parts, false≢true, eqb-true, or_left}
 use Rattle.std.proofs.lemmas.Bool.Decides.{nat_tests}
+use Rattle.bz_token.proofs.Units.{gap_step, opener_is}
 use Rattle.bz_token.specs.declared.token.Token.{Token}
 use Rattle.bz_token.specs.declared.cutter.scan.LineKind.TheVariants.{CommentLine}
 use Rattle.bz_token.specs.declared.chunk.LineEnd.{LineEnd}
 use Rattle.bz_token.specs.declared.chunk.LineEnd.TheVariants.{Joins, Ends, Block}
-use Rattle.bz_token.specs.Lexical.{is_blank}
-use Rattle.bz_token.specs.Blocks.{is_white, continues, head_from, word_at, opener_of, opener}
+use Rattle.bz_token.specs.Pieces.{is_blank, is_white, is_white}
+use Rattle.bz_token.specs.Blocks.{word_at, opener_of, opener}
 use Rattle.bz_token.specs.Places.{placed, line_at}
 use Rattle.bz_token.specs.Brackets.{is_line}
-use Rattle.bz_token.specs.Reading.{is_white as is_gap_white, is_gap, continues_gap, feeds_gap, Piece, IsReading, bytes_of, tokens_of}
+use Rattle.bz_token.specs.Reading.{is_gap, Piece, IsReading, bytes_of, tokens_of}
 use Rattle.bz_token.specs.TokenLines.{is_newline_piece, is_comment_piece, kind_of, line_of}
 use Rattle.bz_token.specs.ChunkForms.{ends_chunk}
 use Rattle.bz_token.specs.private.LineEnds.{is_newline_token, is_comment_token, begins_block, line_end}
 use Rattle.bz_token.proofs.Classes.{same_bytes}
 use Rattle.bz_token.proofs.Progress.{reading_bytes}
 use Rattle.bz_token.proofs.BlockWords.{no_block_from}
+use Rattle.bz_token.specs.private.Gaps.{continues_after, head_from, continues_gap, feeds_gap}
 
-blank_white : (b : ℕ) → is_blank b ≡ true → is_white b ≡ true
+blank_white : (b : ℕ) → is_blank b ≡ true → is_white true b ≡ true
 blank_white b h = grind (arith, nat_tests)
 
 or_false : (x : Bool) → (x || false) ≡ true → x ≡ true
 or_false true h = refl
 or_false false h = h
 
-head_passes : (first : Bool) (b : ℕ) (bs : List ℕ) → (is_white b || continues b bs) ≡ true → head_from first (b ∷ bs) ≡ head_from (b == 10) bs
+head_passes : (first : Bool) (b : ℕ) (bs : List ℕ) → (is_white true b || continues_after b bs) ≡ true → head_from first (b ∷ bs) ≡ head_from (b == 10) bs
 head_passes first b bs h = rw (h, head_from) refl
 
 head_of_two : (first : Bool) (xs : List ℕ) → head_from first (92 ∷ 10 ∷ xs) ≡ head_from true xs
@@ -40,13 +42,13 @@ head_of_three first xs = refl
 mutual
   gap_opens : (gap ys : List ℕ) (first : Bool) → is_gap false gap ≡ true → ((f : Bool) → opener_of (word_at (head_from f ys)) ≡ None) → opener_of (word_at (head_from first (gap ++ ys))) ≡ None
   gap_opens [] ys first h none = none first
-  gap_opens (b ∷ bs) ys first h none = elim (cases_Bool (is_gap_white false b)) [
+  gap_opens (b ∷ bs) ys first h none = elim (cases_Bool (is_white false b)) [
     | inl white ↦
-        let more = rw (white, is_gap) at h in
-        let here = or_left (is_white b) (continues b (bs ++ ys)) (blank_white b (or_false (is_blank b) white)) in
+        let more = rw white at (sym (gap_step false b bs) ∙ h) in
+        let here = or_left (is_white true b) (continues_after b (bs ++ ys)) (blank_white b (or_false (is_blank b) white)) in
         ap (λ x. opener_of (word_at x)) (head_passes first b (bs ++ ys) here) ∙ gap_opens bs ys (b == 10) more none
     | inr other ↦
-        let parts = and_parts (b == 92) (continues_gap false bs) (rw (other, is_gap) at h) in
+        let parts = and_parts (b == 92) (continues_gap false bs) (rw other at (sym (gap_step false b bs) ∙ h)) in
         let same : b ≡ 92 = eqb-true b 92 parts.0 in
         ap (λ x. opener_of (word_at (head_from first (x ∷ (bs ++ ys))))) same ∙ continued_opens bs ys first parts.1 none
   ]
@@ -137,6 +139,7 @@ joins_comment first before lines ps h =
 pub no_opener : (depth : ℕ) (q : Piece) (ps : List Piece) (bytes : List ℕ) → IsReading depth [] (q ∷ ps) [] bytes → is_line q.kind ≡ false → is_some (opener_of (word_at q.text)) ≡ false → opener (bytes_of (q ∷ ps) ++ []) ≡ None
 no_opener depth q ps bytes r line none =
     ap opener (sym (reading_bytes depth [] (q ∷ ps) [] bytes r) ∙ r.1.bytes_are)
+    ∙ opener_is (q.gap ++ (q.text ++ r.0))
     ∙ gap_opens q.gap (q.text ++ r.0) true r.1.gap (λ f. no_block_from f q.kind q.text r.0 r.1.token line (whole_word q.text none))
 
 -- which lines end their chunk

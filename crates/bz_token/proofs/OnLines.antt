@@ -11,7 +11,7 @@ use Rattle.bz_token.specs.declared.token.Kind.{Kind}
 use Rattle.bz_token.specs.Cuts.{ends_in_newline}
 use Rattle.bz_token.specs.Places.{Placed, line_at}
 use Rattle.bz_token.specs.Lexical.{is_text}
-use Rattle.bz_token.specs.Brackets.{is_bracket, is_opening_bracket, is_closing_bracket, open_after_token, open_tokens}
+use Rattle.bz_token.specs.Brackets.{is_opening_bracket, is_closing_bracket, open_after_token, open_tokens}
 use Rattle.bz_token.specs.Reading.{Piece, IsReading, open_after, bytes_of, tokens_of}
 use Rattle.bz_token.specs.Faults.{IsFaultAt, IsFault}
 use Rattle.bz_token.specs.UpToFault.{read_before, IsReadAs}
@@ -23,6 +23,7 @@ use Rattle.bz_token.proofs.OneFault.{open_text_sort, number_sort, backslash_sort
 use Rattle.bz_token.proofs.OneReading.{read_stops}
 use Rattle.bz_token.proofs.Joins.{some_newlines, lines_newline}
 use Rattle.bz_token.proofs.ChunkFaults.{last_newline}
+use Rattle.bz_token.specs.Pieces.{is_one}
 
 less_test : (x y : ℕ) → x < y → nat_lt x y ≡ true
 less_test x y h = grind (arith, nat_tests)
@@ -65,13 +66,13 @@ open_among : (test : Placed → Bool) (opened ts : List Placed) → list_all tes
 open_among test opened [] o h = o
 open_among test opened (u ∷ ts) o h =
     let parts = and_parts (test u) (list_all test ts) h in
-    open_among test (step opened u) ts (stepped (is_bracket is_opening_bracket u.text) (is_bracket is_closing_bracket u.text) refl refl parts.0) parts.1
+    open_among test (step opened u) ts (stepped (is_one is_opening_bracket u.text) (is_one is_closing_bracket u.text) refl refl parts.0) parts.1
   where
     dropped : (xs : List Placed) → list_all test xs ≡ true → list_all test (drop 1 xs) ≡ true
     dropped [] h = refl
     dropped (x ∷ xs) h = (and_parts (test x) (list_all test xs) h).1
 
-    stepped : (opens closes : Bool) → is_bracket is_opening_bracket u.text ≡ opens → is_bracket is_closing_bracket u.text ≡ closes → test u ≡ true → list_all test (step opened u) ≡ true
+    stepped : (opens closes : Bool) → is_one is_opening_bracket u.text ≡ opens → is_one is_closing_bracket u.text ≡ closes → test u ≡ true → list_all test (step opened u) ≡ true
     stepped true closes a b is = rw a (and_from _ _ is o)
     stepped false true a b is = rw (a, b) (dropped opened o)
     stepped false false a b is = rw (a, b) o

@@ -11,7 +11,7 @@ use Rattle.bz_token.specs.declared.scan_string.Opening.{Opening}
 use Rattle.bz_token.specs.declared.token.Kind.{Kind}
 use Rattle.bz_token.specs.declared.token.Kind.TheVariants.{Identifier, Keyword, Integer, String, Operator, Newline, Comment, Kept}
 use Rattle.bz_token.specs.Places.{Placed, line_at, column_at}
-use Rattle.bz_token.specs.Lexical.{begins, is_operator_text, operators, opening, counts, IsToken, HasNoToken}
+use Rattle.bz_token.specs.Lexical.{is_operator_text, operators, counts, IsToken, HasNoToken}
 use Rattle.bz_token.specs.Brackets.{is_inside, is_opening_bracket, is_closing_bracket, closes_innermost, bracket_fits, fits, open_tokens}
 use Rattle.bz_token.specs.Reading.{is_gap, begins_gap, Piece, IsReading, open_after, bytes_of, tokens_of, AreTokensOf}
 use Rattle.bz_token.specs.Faults.{IsOpenText, IsBadNumber, IsBadBackslash, IsBadCharacter, IsBadBracket, IsTooDeep, IsFaultAt, IsOpenBracket, IsFault}
@@ -21,6 +21,8 @@ use Rattle.bz_token.proofs.Ends.{counts_free, no_digit}
 use Rattle.bz_token.proofs.Fitting.{is_bracket_byte, bracket_class, no_bracket}
 use Rattle.bz_token.proofs.Progress.{open_lengths}
 use Rattle.bz_token.proofs.Unique.{gap_begins, IsStuck, one_reading, gap_stuck, place_stuck, longer_front, same_fronts, gap_tail}
+use Rattle.bz_token.specs.Common.{begins}
+use Rattle.bz_token.specs.Strings.{opening}
 
 -- what is wrong at a place
 pub data Sort : Type 0 where

@@ -11,8 +11,8 @@ use Rattle.bz_token.specs.declared.cutter.scan.LineKind.{LineKind}
 use Rattle.bz_token.specs.declared.cutter.scan.CutState.TheVariants.{Opened, OpenedTwice, Short, ShortEscape, ShortEscapeReturn, Long, LongQuote, LongEscape}
 use Rattle.bz_token.specs.declared.cutter.scan.Scan.{Scan}
 use Rattle.bz_token.specs.private.CutSteps.{is_ended, byte_of, at, outside, in_short, next_in, next, run}
-use Rattle.bz_token.specs.Lexical.{closing_row, are_two, is_string, opening, opening_length}
-use Rattle.bz_token.specs.private.Closing.{closes}
+use Rattle.bz_token.specs.Strings.{closing_row, are_two, is_string, opening}
+use Rattle.bz_token.specs.private.Closing.{closes, opening_length}
 use Rattle.bz_token.proofs.CutMachine.{run_append}
 use Rattle.bz_token.proofs.Openings.{opening_facts}
 use Rattle.bz_token.proofs.Ends.{string_opens}

@@ -11,12 +11,13 @@ use Rattle.bz_token.specs.declared.scan_string.Quotes.{Quotes}
 use Rattle.bz_token.specs.declared.scan_string.Escape.{Escape}
 use Rattle.bz_token.specs.declared.scan_string.Escape.TheVariants.{Unescaped}
 use Rattle.bz_token.specs.declared.token.Kind.TheVariants.{String}
-use Rattle.bz_token.specs.Pieces.{is_quote}
-use Rattle.bz_token.specs.Lexical.{is_word_byte, closing_row, are_two, opens_after, prefix_letters, opening, opening_length, is_newline, begins}
-use Rattle.bz_token.specs.private.Closing.{is_escaped, escape_after, closes}
+use Rattle.bz_token.specs.Strings.{is_quote, closing_row, are_two, opens_after, opening}
+use Rattle.bz_token.specs.Lexical.{is_word_byte, is_newline}
+use Rattle.bz_token.specs.private.Closing.{is_escaped, escape_after, closes, prefix_letters, opening_length}
 use Rattle.bz_token.specs.Ends.{is_prefix}
+use Rattle.bz_token.proofs.Prefixes.{opening_is}
 use Rattle.bz_token.proofs.Classes.{class_of, can_start, opening_starts}
-use Rattle.bz_token.specs.Common.{is_empty}
+use Rattle.bz_token.specs.Common.{is_empty, begins}
 
 -- a longer text opens the same string, or a long one where the shorter text opened a short one
 pub record OpensMore (o : Opening) (bytes : List ℕ) : Type 0 where
@@ -66,19 +67,19 @@ from_after n bytes tail o same b = record { more = b.more; opens = same ∙ b.op
 
 -- the four ways to open a string, by the first two bytes
 pub opens_r : (a : ℕ) (bs : List ℕ) → (a == 114) ≡ true → begins (λ b. b == 98) bs ≡ false → opening (a ∷ bs) ≡ opens_after 1 bs
-opens_r a bs r none = rw (r, none) refl
+opens_r a bs r none = opening_is (a ∷ bs) ∙ rw (r, none) refl
 
 pub opens_rb : (a c : ℕ) (cs : List ℕ) → (a == 114) ≡ true → (c == 98) ≡ true → opening (a ∷ c ∷ cs) ≡ opens_after 2 cs
-opens_rb a c cs r b = rw (r, b) refl
+opens_rb a c cs r b = opening_is (a ∷ c ∷ cs) ∙ rw (r, b) refl
 
 pub opens_b : (a : ℕ) (bs : List ℕ) → (a == 114) ≡ false → (a == 98) ≡ true → begins (λ b. b == 114) bs ≡ false → opening (a ∷ bs) ≡ opens_after 1 bs
-opens_b a bs no_r b none = rw (no_r, b, none) refl
+opens_b a bs no_r b none = opening_is (a ∷ bs) ∙ rw (no_r, b, none) refl
 
 pub opens_br : (a c : ℕ) (cs : List ℕ) → (a == 114) ≡ false → (a == 98) ≡ true → (c == 114) ≡ true → opening (a ∷ c ∷ cs) ≡ opens_after 2 cs
-opens_br a c cs no_r b r = rw (no_r, b, r) refl
+opens_br a c cs no_r b r = opening_is (a ∷ c ∷ cs) ∙ rw (no_r, b, r) refl
 
 pub opens_plain : (a : ℕ) (bs : List ℕ) → (a == 114) ≡ false → (a == 98) ≡ false → opening (a ∷ bs) ≡ opens_after 0 (a ∷ bs)
-opens_plain a bs no_r no_b = rw (no_r, no_b) refl
+opens_plain a bs no_r no_b = opening_is (a ∷ bs) ∙ rw (no_r, no_b) refl
 
 pub none_some : (b : Opening) → None ≡ Some b → ⊥
 none_some b e = cc
@@ -265,7 +266,7 @@ opens_facts n bytes (q ∷ qs) o here h =
     some_same a b e = cc
 
 pub opening_facts : (bytes : List ℕ) (o : Opening) → opening bytes ≡ Some o → OpensAt o bytes
-opening_facts bytes o h = opens_facts (prefix_letters bytes) bytes (drop (prefix_letters bytes) bytes) o refl h
+opening_facts bytes o h = opens_facts (prefix_letters bytes) bytes (drop (prefix_letters bytes) bytes) o refl (sym (opening_is bytes) ∙ h)
 
 pub same_bool : (a b : Bool) → (a ≡ true → b ≡ true) → (b ≡ true → a ≡ true) → a ≡ b
 same_bool true b f g = sym (f refl)

@@ -4,7 +4,7 @@ use Rattle.std.specs.List.{prefix_len, list_any}
 use Rattle.std.specs.Prelude.{if◌then◌else◌}
 use Rattle.std.proofs.lemmas.Bool.{and_parts, not-true, or_from, eq-eqb}
 use Rattle.std.proofs.lemmas.Bool.Decides.{nat_tests}
-use Rattle.bz_token.specs.Pieces.{is_quote}
+use Rattle.bz_token.specs.Strings.{is_quote}
 use Rattle.bz_token.specs.Lexical.{is_newline}
 use Rattle.bz_token.specs.private.Closing.{closes, starts_escape}
 use Rattle.bz_token.specs.private.Scans.{is_plain}

@@ -11,7 +11,7 @@ use Rattle.std.proofs.lemmas.Grind.{common_steps}
 use Rattle.std.proofs.lemmas.Str.{IsCharBoundary-start, IsUtf8-drop}
 use Rattle.bz_token.specs.declared.token.Kind.{Kind}
 use Rattle.bz_token.specs.Places.{Placed, line_at, column_from, column_at}
-use Rattle.bz_token.specs.Lexical.{begins, is_blank, is_newline, IsToken}
+use Rattle.bz_token.specs.Lexical.{is_newline, IsToken}
 use Rattle.bz_token.specs.Brackets.{is_inside, is_opening_bracket, is_closing_bracket, closes_innermost, fits, open_after_token, open_tokens}
 use Rattle.bz_token.specs.Reading.{is_gap, begins_gap, Piece, IsPiece, IsReading, open_after, bytes_of, token_of, tokens_of, AreTokensOf}
 use Rattle.bz_token.specs.declared.fault.LexFault.{LexFault}
@@ -25,6 +25,8 @@ use Rattle.bz_token.specs.private.Steps.{IsRefused}
 pub use Rattle.bz_token.specs.private.Progress.{lines_of, Descends, newest, Progress, Grows}
 use Rattle.bz_token.proofs.Innermost.{step}
 use Rattle.bz_token.proofs.Scanning.{boundary_after}
+use Rattle.bz_token.specs.Common.{begins}
+use Rattle.bz_token.specs.Pieces.{is_blank}
 
 abbrev pub newlines : List ℕ → ℕ
 newlines bytes = count_by (λ b. b == 10) bytes

@@ -13,7 +13,7 @@ use Rattle.bz_token.specs.declared.cutter.scan.LineKind.TheVariants.{Statement}
 use Rattle.bz_token.specs.declared.cutter.scan.CutState.{CutState}
 use Rattle.bz_token.specs.declared.cutter.scan.CutState.TheVariants.{Plain, Ended, BrokenOff, Backslash, BackslashReturn, Comment, Opened, OpenedTwice, Short, ShortEscape, ShortEscapeReturn, Long, LongQuote, LongTwoQuotes, LongEscape}
 use Rattle.bz_token.specs.declared.cutter.scan.Scan.{Scan}
-use Rattle.bz_token.specs.Lexical.{is_word_byte, is_newline, is_name, is_keyword, is_string, is_text, opening}
+use Rattle.bz_token.specs.Lexical.{is_word_byte, is_newline, is_name, is_keyword, is_text}
 use Rattle.bz_token.specs.private.CutSteps.{is_ended, outside, next_in, next, run}
 use Rattle.bz_token.proofs.Classes.{keyword_name}
 use Rattle.bz_token.proofs.Ends.{number_words, string_opens}
@@ -23,17 +23,12 @@ use Rattle.bz_token.proofs.OpenStrings.{string_within}
 use Rattle.bz_token.proofs.CutMachine.{next_inside}
 use Rattle.bz_token.proofs.CutSeen.{seen_lines}
 use Rattle.bz_token.proofs.CutStrings.{seen_step}
+use Rattle.bz_token.specs.Strings.{is_string, opening}
 
 -- after none of these bytes a logical line has ended
 abbrev pub is_quiet : Scan → List ℕ → Bool
 is_quiet s [] = true
 is_quiet s (b ∷ bs) = not (is_ended (next s b).inside) && is_quiet (next s b) bs
-
-pub quiet_append : (xs ys : List ℕ) (s : Scan) → is_quiet s xs ≡ true → is_quiet (run s xs) ys ≡ true → is_quiet s (xs ++ ys) ≡ true
-quiet_append [] ys s h g = g
-quiet_append (x ∷ xs) ys s h g =
-    let p = and_parts (not (is_ended (next s x).inside)) (is_quiet (next s x) xs) h in
-    and_from (not (is_ended (next s x).inside)) (is_quiet (next s x) (xs ++ ys)) p.0 (quiet_append xs ys (next s x) p.1 g)
 
 pub quiet_end : (xs : List ℕ) (s : Scan) → is_ended s.inside ≡ false → is_quiet s xs ≡ true → is_ended (run s xs).inside ≡ false
 quiet_end [] s h q = h

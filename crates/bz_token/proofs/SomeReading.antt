@@ -3,6 +3,7 @@ use Rattle.std.proofs.Common.{◌≡◌, ℕ, zero, suc, ◌≤◌, ◌&&◌, �
 use Rattle.std.specs.Prelude.{Option, Some, None, nat_lt}
 use Rattle.std.proofs.lemmas.Bool.{cases_Bool, or_cases, false≢true}
 use Rattle.std.proofs.lemmas.Bool.Decides.{nat_tests}
+use Rattle.bz_token.proofs.Units.{gap_step, begins_is}
 use Rattle.bz_token.specs.declared.fault.LexFault.{LexFault}
 use Rattle.bz_token.specs.declared.fault.LexFault.TheVariants as faults
 use Rattle.bz_token.specs.declared.scan_token.Scanned.{Scanned}
@@ -10,7 +11,7 @@ use Rattle.bz_token.specs.declared.scan_token.Bad.{Bad}
 use Rattle.bz_token.specs.declared.scan_token.Bad.TheVariants as bads
 use Rattle.bz_token.specs.Places.{Placed, line_at, column_at}
 use Rattle.bz_token.specs.Brackets.{is_inside, is_opening_bracket, is_closing_bracket, bracket_fits, open_after_token, open_tokens}
-use Rattle.bz_token.specs.Reading.{is_white, is_gap, continues, begins_gap, Piece, IsReading, open_after, bytes_of, tokens_of}
+use Rattle.bz_token.specs.Reading.{is_gap, begins_gap, Piece, IsReading, open_after, bytes_of, tokens_of}
 use Rattle.bz_token.specs.Faults.{IsOpenText, IsBadNumber, IsBadBackslash, IsBadCharacter, IsBadBracket, IsTooDeep, IsFaultAt}
 use Rattle.bz_token.specs.private.Scans.{IsScanned, IsBadPlace}
 use Rattle.bz_token.specs.UpToFault.{IsReadAs}
@@ -19,6 +20,8 @@ use Rattle.bz_token.proofs.Fitting.{token_fits}
 use Rattle.bz_token.proofs.Progress.{open_lengths}
 use Rattle.bz_token.proofs.OneFault.{Sort, open_text, bad_number, bad_backslash, bad_bracket, too_deep, bad_character, told}
 use Rattle.bz_token.proofs.SomeToken.{token_or_bad}
+use Rattle.bz_token.specs.Pieces.{is_white}
+use Rattle.bz_token.specs.private.Gaps.{continues}
 
 -- a gap as long as it goes on
 record GapAt (inside : Bool) (bytes : List ℕ) : Type 0 where
@@ -36,7 +39,7 @@ two_bytes inside b (c ∷ cs) n fits again same other =
     let first : b ≡ 92 = cc in
     let second : c ≡ 10 = cc in
     let more = r.is_gap in
-    record { gap = b ∷ c ∷ r.gap; after = r.after; bytes_are = ap (λ x. b ∷ c ∷ x) r.bytes_are; is_gap = rw (other, first, second, more, is_gap) refl; after_gap = r.after_gap }
+    record { gap = b ∷ c ∷ r.gap; after = r.after; bytes_are = ap (λ x. b ∷ c ∷ x) r.bytes_are; is_gap = gap_step inside b (c ∷ r.gap) ∙ rw (other, first, second, more) refl; after_gap = r.after_gap }
 
 three_bytes : (inside : Bool) (b : ℕ) (bs : List ℕ) (n : ℕ) → length bs ≤ n → ((ys : List ℕ) → length ys ≤ n → GapAt inside ys) → take 3 (b ∷ bs) ≡ 92 ∷ 13 ∷ 10 ∷ [] → is_white inside b ≡ false → GapAt inside (b ∷ bs)
 three_bytes inside b [] n fits again same other = absurd cc
@@ -47,7 +50,7 @@ three_bytes inside b (c ∷ d ∷ ds) n fits again same other =
     let second : c ≡ 13 = cc in
     let third : d ≡ 10 = cc in
     let more = r.is_gap in
-    record { gap = b ∷ c ∷ d ∷ r.gap; after = r.after; bytes_are = ap (λ x. b ∷ c ∷ d ∷ x) r.bytes_are; is_gap = rw (other, first, second, third, more, is_gap) refl; after_gap = r.after_gap }
+    record { gap = b ∷ c ∷ d ∷ r.gap; after = r.after; bytes_are = ap (λ x. b ∷ c ∷ d ∷ x) r.bytes_are; is_gap = gap_step inside b (c ∷ d ∷ r.gap) ∙ rw (other, first, second, third, more) refl; after_gap = r.after_gap }
 
 gap_at : (inside : Bool) (n : ℕ) (bytes : List ℕ) → length bytes ≤ n → GapAt inside bytes
 gap_at inside n [] fits = record { gap = []; after = []; bytes_are = refl; is_gap = refl; after_gap = refl }
@@ -56,9 +59,9 @@ gap_at inside (suc n) (b ∷ bs) fits = elim (cases_Bool (is_white inside b)) [
   | inl white ↦
       let r = gap_at inside n bs (omega arith) in
       let more = r.is_gap in
-      record { gap = b ∷ r.gap; after = r.after; bytes_are = ap (λ x. b ∷ x) r.bytes_are; is_gap = rw (white, more, is_gap) refl; after_gap = r.after_gap }
+      record { gap = b ∷ r.gap; after = r.after; bytes_are = ap (λ x. b ∷ x) r.bytes_are; is_gap = gap_step inside b r.gap ∙ rw (white, more) refl; after_gap = r.after_gap }
   | inr other ↦ elim (cases_Bool (continues (b ∷ bs))) [
-    | inr none ↦ record { gap = []; after = b ∷ bs; bytes_are = refl; is_gap = refl; after_gap = rw (other, none) refl }
+    | inr none ↦ record { gap = []; after = b ∷ bs; bytes_are = refl; is_gap = refl; after_gap = begins_is inside (b ∷ bs) ∙ rw (other, none) refl }
     | inl on ↦ elim (or_cases _ _ on) [
       | inl two ↦ two_bytes inside b bs n (omega arith) (λ ys less. gap_at inside n ys less) (same_bytes (take 2 (b ∷ bs)) (92 ∷ 10 ∷ []) two) other
       | inr three ↦ three_bytes inside b bs n (omega arith) (λ ys less. gap_at inside n ys less) (same_bytes (take 3 (b ∷ bs)) (92 ∷ 13 ∷ 10 ∷ []) three) other

@@ -3,6 +3,7 @@ use Rattle.std.proofs.Common.{◌≡◌, ℕ, ◌<◌, ◌==◌, ◌&&◌, ◌||
 use Rattle.std.specs.List.{list_all, list_any, prefix_len}
 use Rattle.std.proofs.lemmas.Bool.{cases_Bool, and_parts, or_cases, false≢true, eqb-true, and_from, not-true, not_from_false, or_parts}
 use Rattle.std.proofs.lemmas.Bool.Decides.{nat_tests}
+use Rattle.bz_token.proofs.Units.{gap_step}
 use Rattle.bz_token.specs.declared.token.Kind.{Kind}
 use Rattle.bz_token.specs.declared.token.Kind.TheVariants.{Identifier, Keyword, Integer, String, Operator, Newline, Comment as CommentToken, Kept}
 use Rattle.bz_token.specs.declared.cutter.scan.LineKind.{LineKind}
@@ -11,15 +12,17 @@ use Rattle.bz_token.specs.declared.cutter.scan.CutState.{CutState}
 use Rattle.bz_token.specs.declared.cutter.scan.CutState.TheVariants.{Plain, Ended, BrokenOff, Backslash, BackslashReturn, Comment, Opened, OpenedTwice, Short, ShortEscape, ShortEscapeReturn, Long, LongQuote, LongTwoQuotes, LongEscape}
 use Rattle.bz_token.specs.declared.cutter.scan.Scan.{Scan}
 use Rattle.bz_token.specs.private.CutSteps.{is_ended, at, outside, next_in, next, run, with_comment}
-use Rattle.bz_token.specs.Lexical.{is_blank, is_newline, is_text, IsToken}
+use Rattle.bz_token.specs.Lexical.{is_newline, is_text, IsToken}
 use Rattle.bz_token.specs.Brackets.{is_line, fits, open_after_token}
-use Rattle.bz_token.specs.Reading.{is_white, is_gap, continues_gap, feeds_gap}
+use Rattle.bz_token.specs.Reading.{is_gap}
 use Rattle.bz_token.proofs.Classes.{newline, hash, unknown, class_of, can_start, text_class, empty_no_text}
 use Rattle.bz_token.proofs.Ends.{comment_parts}
 use Rattle.bz_token.proofs.Stops.{token_ends}
 use Rattle.bz_token.proofs.CutSeen.{final_kind}
 use Rattle.bz_token.proofs.Agree.{IsAt, stands, Ready, acts, comments, token_run, visible}
 use Rattle.bz_token.proofs.Quiet.{is_quiet, quiet_end, statement_step, statement_run, short_no_newline, plain_quiet, string_quiet}
+use Rattle.bz_token.specs.Pieces.{is_blank, is_white}
+use Rattle.bz_token.specs.private.Gaps.{continues_gap, feeds_gap}
 
 -- The cutter acts as outside strings and comments in a line of this kind; or it is in a comment of which white space is left.
 pub data Stands (s : Scan) (d : ℕ) (k : LineKind) (after : List ℕ) : Type 0 where
@@ -92,7 +95,7 @@ mutual
   gap_after inside [] rest s d k deep h st = record { stands = st; quiet = refl }
   gap_after inside (b ∷ bs) rest s d k deep h st = elim (cases_Bool (is_white inside b)) [
     | inl white ↦
-        let more = rw (white, is_gap) at h in
+        let more = rw white at (sym (gap_step inside b bs) ∙ h) in
         elim (or_cases (is_blank b) (inside && b == 10) white) [
           | inl blank ↦
               let here = blank_stands s d k b (bs ++ rest) st blank in
@@ -104,7 +107,7 @@ mutual
               step_after s d k b bs rest (ended_at (next s b) Plain d k here refl) (gap_after inside bs rest (next s b) d k deep more (stands_plain (next s b) d k (bs ++ rest) here))
         ]
     | inr other ↦
-        let parts = and_parts (b == 92) (continues_gap inside bs) (rw (other, is_gap) at h) in
+        let parts = and_parts (b == 92) (continues_gap inside bs) (rw other at (sym (gap_step inside b bs) ∙ h)) in
         let same : b ≡ 92 = eqb-true b 92 parts.0 in
         let here : next s b ≡ at Backslash d k = stands_first s d k b (bs ++ rest) st (ap is_blank same) ∙ ap (outside d k) same in
         step_after s d k b bs rest (ended_at (next s b) Backslash d k here refl) (continued_after inside bs rest (next s b) d k deep parts.1 here)

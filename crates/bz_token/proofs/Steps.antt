@@ -1,14 +1,15 @@
 -- What stands at a place, before it is read.
-use Rattle.std.proofs.Common.{◌≡◌, ◌==◌, ℕ, ◌-◌, zero, suc, drop, ◌+◌, ◌<◌, List, [], ◌∷◌, length, take, get_or, ◌||◌, Bool, true, false, refl, ap, subst, ◌∙◌, arith, inl, inr, one-add}
+use Rattle.std.proofs.Common.{◌≡◌, ◌==◌, ℕ, ◌-◌, zero, suc, drop, ◌+◌, ◌<◌, List, [], ◌∷◌, ◌++◌, length, take, get_or, ◌||◌, Bool, true, false, refl, ap, subst, ◌∙◌, arith, inl, inr, one-add}
 use Rattle.std.specs.Prelude.{Result, Ok, Err, IfOk, IfErr}
 use Rattle.std.specs.List.{prefix_len}
 use Rattle.std.proofs.lemmas.List.{length-take-le}
 use Rattle.std.proofs.lemmas.List.Sums.{prefix_len-le-length}
 use Rattle.std.proofs.lemmas.Bool.{eqb-true, false≢true, or_parts}
 use Rattle.std.proofs.lemmas.Bool.Decides.{nat_tests}
+use Rattle.bz_token.proofs.Units.{gap_step, begins_is}
 use Rattle.bz_token.specs.declared.gap.TokenGap.{TokenGap}
 use Rattle.bz_token.specs.Brackets.{is_opening_bracket, is_closing_bracket, is_inside, bracket_fits, open_after_token}
-use Rattle.bz_token.specs.Lexical.{begins, is_blank}
+use Rattle.bz_token.specs.Pieces.{is_blank}
 use Rattle.bz_token.specs.Reading.{begins_gap}
 use Rattle.bz_token.specs.private.Scans.{IsScanned, IsBadPlace, bad_fault, IsMisfit, misfit_fault}
 use Rattle.bz_token.specs.private.Steps.{IsTaken, IsTakenAs, IsRefused, IsGapHere, IsStep, IsTokenStep, IsBadStep}
@@ -21,6 +22,7 @@ use Rattle.bz_token.specs.private.Tables.{IsSolid}
 use Rattle.bz_token.proofs.Gaps.{blank_run, blank_ascii}
 use Rattle.bz_token.proofs.Scanning.{all_front}
 use Rattle.bz_token.proofs.Progress.{newlines, newlines-append, one_line, one_line_newlines, one_line_column}
+use Rattle.bz_token.specs.Common.{begins}
 
 blank_first : (bytes : List ℕ) → begins is_blank bytes ≡ true → 0 < prefix_len is_blank bytes
 blank_first [] h = absurd (false≢true h)
@@ -63,7 +65,7 @@ newline_here (b ∷ bs) gap some first on len ends =
       some = omega (arith, len);
       within = omega (arith, whole, within);
       on_line = omega (arith, len);
-      goes_on = λ ys. rw (whole, first) (blank_run true bs ys);
+      goes_on = λ ys. rw (whole, first) (gap_step true 10 (take (prefix_len is_blank bs) bs ++ ys) ∙ blank_run true bs ys);
       ascii = rw (last, first) (last_ascii bs n refl);
       lines = rw (whole, ends, first) one;
       column = λ c. rw (whole, on, ends, first) (one_line_column 1 (take n bs) flat ∙ ap (λ k. 1 + k) (length-take-le n bs within));
@@ -72,13 +74,13 @@ newline_here (b ∷ bs) gap some first on len ends =
 -- no gap begins with a solid byte
 pub solid_gap : (inside : Bool) (bytes : List ℕ) → 0 < length bytes → IsSolid (get_or bytes 0 0) → begins_gap inside bytes ≡ false
 solid_gap inside [] some solid = absurd (omega arith)
-solid_gap true (b ∷ bs) some solid = let blank = solid.0 in let line = solid.1 in let slash = solid.2 in rw (blank, line, slash) refl
-solid_gap false (b ∷ bs) some solid = let blank = solid.0 in let slash = solid.2 in rw (blank, slash) refl
+solid_gap true (b ∷ bs) some solid = let blank = solid.0 in let line = solid.1 in let slash = solid.2 in begins_is true (b ∷ bs) ∙ rw (blank, line, slash) refl
+solid_gap false (b ∷ bs) some solid = let blank = solid.0 in let slash = solid.2 in begins_is false (b ∷ bs) ∙ rw (blank, slash) refl
 
 -- a newline outside brackets is no gap
 pub newline_gap : (inside : Bool) (bytes : List ℕ) → inside ≡ false → 0 < length bytes → get_or bytes 0 0 ≡ 10 → begins_gap inside bytes ≡ false
 newline_gap inside [] outside some first = absurd (omega arith)
-newline_gap inside (b ∷ bs) outside some first = rw (outside, first) refl
+newline_gap inside (b ∷ bs) outside some first = begins_is inside (b ∷ bs) ∙ rw (outside, first) refl
 
 -- what a step is, of the text itself
 pub gap_of_step : (depth : ℕ) (opened after bytes rest : List ℕ) (s : GapOrToken) (gap : TokenGap) → bytes ≡ rest → s ≡ step.Gap gap → IsTaken depth opened after bytes s → IsGapHere (is_inside opened) rest gap × (after ≡ opened)

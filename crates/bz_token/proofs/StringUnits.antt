@@ -1,5 +1,5 @@
 -- A string's inside is closed by units exactly where it is closed byte by byte.
-use Rattle.std.proofs.Common.{◌≡◌, ℕ, ◌+◌, ◌==◌, ◌&&◌, List, [], ◌∷◌, ◌++◌, Bool, true, false, not, cond, refl, arith, inl, inr, eqb-true}
+use Rattle.std.proofs.Common.{◌≡◌, ℕ, ◌+◌, ◌==◌, ◌&&◌, List, [], ◌∷◌, ◌++◌, Bool, true, false, not, cond, refl, ◌∙◌, ◌||◌, arith, inl, inr, eqb-true}
 use Rattle.std.specs.Prelude.{bytes_eq}
 use Rattle.std.specs.List.{list_any}
 use Rattle.std.proofs.lemmas.Bool.{cases_Bool, or_parts, or_cases, eqb-false}
@@ -7,11 +7,12 @@ use Rattle.bz_token.specs.declared.scan_string.Escape.{Escape}
 use Rattle.bz_token.specs.declared.scan_string.Escape.TheVariants.{Unescaped, AfterBackslash, AfterReturn}
 use Rattle.bz_token.specs.declared.scan_string.Quotes.{Quotes}
 use Rattle.bz_token.specs.Groups.{grouped_from}
-use Rattle.bz_token.specs.Pieces.{is_byte, escape_takes, units, but_last, stops_short, three_in_a_row, is_quote}
-use Rattle.bz_token.specs.Lexical.{is_closed_inside}
+use Rattle.bz_token.specs.Strings.{is_byte, escape_takes, units, but_last, is_quote, has_closing, has_break}
+use Rattle.bz_token.specs.private.StringPieces.{stops_short, three_in_a_row, is_closed_inside}
 use Rattle.bz_token.specs.private.Closing.{is_escaped, starts_escape, escape_after, closes}
 use Rattle.bz_token.proofs.CutStrings.{grouped_joins, grouped_apart, but_last_cons, takes_cases, three_step, three_now, third, row}
 use Rattle.bz_token.specs.Common.{is_empty}
+use Rattle.bz_token.proofs.StringForms.{quote_takes, quote_is, closed_inside}
 
 abbrev short : ℕ → Quotes
 short q = record { byte = q; long = false }
@@ -56,15 +57,9 @@ escape_new u b h =
       | inr differs ↦ rw (parts.0, differs) (escape_starts b)
     ]
 
--- a quote takes nothing along, and is itself no newline
-quote_takes : (q c : ℕ) → is_quote q ≡ true → escape_takes (q ∷ []) c ≡ false
-quote_takes q c h = elim (or_cases (q == 34) (q == 39) h) [ inl is ↦ rw (eqb-true q 34 is) refl | inr is ↦ rw (eqb-true q 39 is) refl ]
-
+-- a quote is no newline
 quote_no_newline : (q : ℕ) → is_quote q ≡ true → (10 == q) ≡ false
 quote_no_newline q h = elim (or_cases (q == 34) (q == 39) h) [ inl is ↦ rw (eqb-true q 34 is) refl | inr is ↦ rw (eqb-true q 39 is) refl ]
-
-quote_is : (q : ℕ) → is_quote q ≡ true → (q == q) ≡ true
-quote_is q h = elim (or_cases (q == 34) (q == 39) h) [ inl is ↦ rw (eqb-true q 34 is) refl | inr is ↦ rw (eqb-true q 39 is) refl ]
 
 -- a unit of several bytes is no byte
 several : (x : Bool) → (x && false) ≡ false
@@ -164,5 +159,5 @@ closes_with q false [] quote = refl
 closes_with q true (b ∷ bs) quote = long_first q 0 b bs Unescaped quote refl (escape_starts b) (long_from q 0 bs (b ∷ []) quote)
 closes_with q false (b ∷ bs) quote = short_first q b bs Unescaped quote refl (escape_starts b) (short_from q bs (b ∷ []) quote)
 
-pub closes_units : (quotes : Quotes) (bs : List ℕ) → is_quote quotes.byte ≡ true → closes quotes 0 Unescaped bs ≡ is_closed_inside quotes (units bs)
-closes_units quotes bs quote = closes_with quotes.byte quotes.long bs quote
+pub closes_units : (quotes : Quotes) (bs : List ℕ) → is_quote quotes.byte ≡ true → closes quotes 0 Unescaped bs ≡ (has_closing quotes (units bs) && not (has_closing quotes (but_last (units bs)) || has_break quotes (but_last (units bs))))
+closes_units quotes bs quote = closes_with quotes.byte quotes.long bs quote ∙ closed_inside quotes (units bs)

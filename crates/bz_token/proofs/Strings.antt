@@ -5,11 +5,12 @@ use Rattle.std.proofs.lemmas.Bool.{cases_lt, false≢true}
 use Rattle.std.proofs.lemmas.Bool.Decides.{nat_tests}
 use Rattle.std.proofs.lemmas.List.{take_more}
 use Rattle.std.proofs.lemmas.List.Folds.{list_any-append}
-use Rattle.bz_token.specs.Lexical.{is_newline, closing_row}
+use Rattle.bz_token.specs.Lexical.{is_newline}
 use Rattle.bz_token.specs.declared.scan_string.Quotes.{Quotes}
 use Rattle.bz_token.specs.declared.scan_string.Escape.{Escape}
 use Rattle.bz_token.specs.declared.scan_string.Escape.TheVariants.{Unescaped, AfterBackslash, AfterReturn}
 use Rattle.bz_token.specs.private.Closing.{is_escaped, escape_after, closes}
+use Rattle.bz_token.specs.Strings.{closing_row}
 
 -- a longer front has a byte more
 pub longer_front : (bytes : List ℕ) (i n : ℕ) → i < n → i < length bytes → (more : List ℕ) × (take n bytes ≡ take i bytes ++ get_or bytes i 0 ∷ more)

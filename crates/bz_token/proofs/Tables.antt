@@ -6,14 +6,16 @@ use Rattle.std.specs.Char.{is_ascii_digit}
 use Rattle.std.proofs.lemmas.List.FromFn.{get_or-map-range_with_len}
 use Rattle.std.proofs.lemmas.Bool.{cases_Bool, or_cases, eqb-true, false≢true, or_left, or_right}
 use Rattle.std.proofs.lemmas.Bool.Decides.{nat_tests}
-use Rattle.bz_token.specs.Pieces.{is_quote}
-use Rattle.bz_token.specs.Lexical.{begins, is_word_byte, is_blank, are_two, opening}
+use Rattle.bz_token.specs.Strings.{is_quote, are_two, opening}
+use Rattle.bz_token.specs.Lexical.{is_word_byte}
 use Rattle.bz_token.specs.Brackets.{is_opening_bracket, is_closing_bracket}
 use Rattle.bz_token.specs.private.Tables.{is_prefix_letter, is_point, is_operator_start, is_single, class_of, IsMark, IsSolid}
 use Rattle.bz_token.specs.declared.table.ByteClass.{ByteClass}
 use Rattle.bz_token.specs.declared.table.ByteClass.TheVariants.{Unknown, Space, Newline, Letter, Prefix, Digit, Quote, Hash, Backslash, Open, Close, Point, Operator}
 use Rattle.bz_token.specs.declared.table.TheConstants.{CLASS, WORD}
 use Rattle.bz_token.proofs.Openings.{opens_plain}
+use Rattle.bz_token.specs.Common.{begins}
+use Rattle.bz_token.specs.Pieces.{is_blank}
 
 classes : CLASS ≡ map class_of (range_with_len 0 256)
 classes = refl

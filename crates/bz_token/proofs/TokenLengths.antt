@@ -8,13 +8,15 @@ use Rattle.bz_token.specs.declared.scan_string.Opening.{Opening}
 use Rattle.bz_token.specs.declared.scan_token.Scanned.{Scanned}
 use Rattle.bz_token.specs.declared.token.Kind.{Kind}
 use Rattle.bz_token.specs.declared.token.Kind.TheVariants.{Identifier, String, Comment}
-use Rattle.bz_token.specs.Lexical.{begins, is_word_byte, is_keyword, opening, is_closed, is_text, counts, IsToken, HasNoToken}
+use Rattle.bz_token.specs.Lexical.{is_word_byte, is_keyword, is_text, counts, IsToken, HasNoToken}
 use Rattle.bz_token.specs.Faults.{IsOpenText}
 use Rattle.bz_token.specs.private.Scans.{IsScanned}
 use Rattle.bz_token.specs.Lengths.{front_word, word_length, IsTokenOf}
 use Rattle.bz_token.proofs.Openings.{none_some, opening_more}
 use Rattle.bz_token.proofs.Scanning.{all_front}
-use Rattle.bz_token.specs.Common.{is_empty}
+use Rattle.bz_token.specs.Common.{is_empty, begins}
+use Rattle.bz_token.specs.Strings.{opening}
+use Rattle.bz_token.specs.private.Closing.{is_closed}
 
 -- the word at the front is an identifier: it begins as a name, and is no keyword
 pub identifier_front : (bytes : List ℕ) (n : ℕ) → n ≡ prefix_len is_word_byte bytes → (not (is_empty (take n bytes)) && not (begins is_ascii_digit (take n bytes))) ≡ true

@@ -2,14 +2,18 @@
 use Rattle.std.proofs.Common.{◌≡◌, ℕ, ◌<◌, ◌≤◌, ◌==◌, ◌&&◌, ◌||◌, List, [], ◌∷◌, ◌++◌, length, Bool, true, false, not, refl, sym, ap, ap₂, subst, ◌∙◌, arith, inl, inr, length-append, append-nil, ◌⊎◌}
 use Rattle.std.specs.Prelude.{Option, Some, None}
 use Rattle.std.proofs.lemmas.Bool.{cases_Bool, cases_lt, and_parts, or_cases, false≢true, eqb-true, not-true}
+use Rattle.bz_token.proofs.Units.{gap_step, begins_is}
 use Rattle.bz_token.specs.declared.scan_string.Opening.{Opening}
 use Rattle.bz_token.specs.declared.token.Kind.{Kind}
 use Rattle.bz_token.specs.declared.token.Kind.TheVariants.{Identifier, Keyword, Integer, String, Operator, Newline, Comment, Kept}
-use Rattle.bz_token.specs.Lexical.{is_blank, is_keyword, is_name, is_string, opening, is_text, is_string_kind, counts, IsToken}
+use Rattle.bz_token.specs.Lexical.{is_keyword, is_name, is_text, is_string_kind, counts, IsToken}
 use Rattle.bz_token.specs.Brackets.{is_inside, fits, open_after_token}
-use Rattle.bz_token.specs.Reading.{is_white, is_gap, continues_gap, feeds_gap, continues, begins_gap, Piece, IsPiece, IsReading, open_after}
+use Rattle.bz_token.specs.Reading.{is_gap, begins_gap, Piece, IsPiece, IsReading, open_after}
 use Rattle.bz_token.proofs.Classes.{Class, letter, digit, quote, newline, hash, mark, unknown, class_of, can_start, text_class, empty_no_text, same_bytes}
 use Rattle.bz_token.proofs.Ends.{no_string}
+use Rattle.bz_token.specs.Strings.{is_string, opening}
+use Rattle.bz_token.specs.Pieces.{is_blank, is_white}
+use Rattle.bz_token.specs.private.Gaps.{continues_gap, feeds_gap, continues}
 
 -- the longer of two fronts goes on from the shorter
 pub longer_front : (xs ys a b : List ℕ) → xs ++ a ≡ ys ++ b → length xs ≤ length ys → (more : List ℕ) × (ys ≡ xs ++ more) × (a ≡ more ++ b)
@@ -36,10 +40,10 @@ mutual
   pub gap_tail : (inside : Bool) (g more : List ℕ) → is_gap inside (g ++ more) ≡ true → is_gap inside g ≡ true → is_gap inside more ≡ true
   gap_tail inside [] more h g = h
   gap_tail inside (b ∷ bs) more h g = elim (cases_Bool (is_white inside b)) [
-    | inl white ↦ gap_tail inside bs more (rw (white, is_gap) at h) (rw (white, is_gap) at g)
+    | inl white ↦ gap_tail inside bs more (rw white at (sym (gap_step inside b (bs ++ more)) ∙ h)) (rw white at (sym (gap_step inside b bs) ∙ g))
     | inr other ↦
-        let h' = rw (other, is_gap) at h in
-        let g' = rw (other, is_gap) at g in
+        let h' = rw other at (sym (gap_step inside b (bs ++ more)) ∙ h) in
+        let g' = rw other at (sym (gap_step inside b bs) ∙ g) in
         continues_tail inside bs more (and_parts (b == 92) (continues_gap inside (bs ++ more)) h').1 (and_parts (b == 92) (continues_gap inside bs) g').1
   ]
 
@@ -61,15 +65,15 @@ mutual
 gap_first : (inside : Bool) (b : ℕ) (bs : List ℕ) → is_gap inside (b ∷ bs) ≡ true → (is_white inside b || b == 92) ≡ true
 gap_first inside b bs h = elim (cases_Bool (is_white inside b)) [
   | inl white ↦ rw white refl
-  | inr other ↦ let p = and_parts (b == 92) (continues_gap inside bs) (rw (other, is_gap) at h) in rw (other, p.0) refl
+  | inr other ↦ let p = and_parts (b == 92) (continues_gap inside bs) (rw other at (sym (gap_step inside b bs) ∙ h)) in rw (other, p.0) refl
 ]
 
 -- a gap that is not empty begins one
 pub gap_begins : (inside : Bool) (b : ℕ) (bs rest : List ℕ) → is_gap inside (b ∷ bs) ≡ true → begins_gap inside (b ∷ bs ++ rest) ≡ true
-gap_begins inside b bs rest h = elim (cases_Bool (is_white inside b)) [
+gap_begins inside b bs rest h = begins_is inside (b ∷ bs ++ rest) ∙ elim (cases_Bool (is_white inside b)) [
   | inl white ↦ rw white refl
   | inr other ↦
-      let p = and_parts (b == 92) (continues_gap inside bs) (rw (other, is_gap) at h) in
+      let p = and_parts (b == 92) (continues_gap inside bs) (rw other at (sym (gap_step inside b bs) ∙ h)) in
       rw other (line bs p.0 p.1)
 ]
   where

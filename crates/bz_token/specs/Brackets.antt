@@ -1,14 +1,18 @@
--- Which brackets are open, and which tokens fit there (Starlark specification, "Lexical elements": a newline within brackets
--- is white space; the greatest depth is this project's own rule). Open brackets are listed from the innermost outwards.
+-- Which brackets are open, and which tokens fit there (Starlark specification, "Lexical elements": a newline within
+-- brackets is white space; the greatest depth is this project's own rule). Open brackets are listed from the innermost
+-- outwards.
 -- Begin with `open_after_token` and `fits`.
 use Rattle.std.specs.Prelude.{ℕ, List, [], ◌∷◌, length, drop, Bool, true, false, not, ◌&&◌, ◌||◌, ◌==◌, nat_lt, if◌then◌else◌}
 use Rattle.bz_token.specs.declared.token.Kind.{Kind}
 use Rattle.bz_token.specs.declared.token.Kind.TheVariants.{Newline}
+use Rattle.bz_token.specs.Pieces.{is_one}
 use Rattle.bz_token.specs.Places.{Placed}
 
+-- `(`, `[` or `{`
 abbrev pub is_opening_bracket : ℕ → Bool
 is_opening_bracket b = b == 40 || b == 91 || b == 123
 
+-- `)`, `]` or `}`
 abbrev pub is_closing_bracket : ℕ → Bool
 is_closing_bracket b = b == 41 || b == 93 || b == 125
 
@@ -16,6 +20,7 @@ is_closing_bracket b = b == 41 || b == 93 || b == 125
 abbrev pub is_pair : ℕ → ℕ → Bool
 is_pair a b = (a == 40 && b == 41) || (a == 91 && b == 93) || (a == 123 && b == 125)
 
+-- some bracket is open
 abbrev pub is_inside : List ℕ → Bool
 is_inside [] = false
 is_inside (a ∷ opened) = true
@@ -30,6 +35,7 @@ abbrev pub bracket_fits : ℕ → List ℕ → ℕ → Bool
 bracket_fits depth opened b =
     if is_opening_bracket b then nat_lt (length opened) depth else (if is_closing_bracket b then closes_innermost opened b else true)
 
+-- a newline token
 abbrev pub is_line : Kind → Bool
 is_line Newline = true
 is_line _ = false
@@ -41,15 +47,14 @@ fits depth opened kind _ = true
 
 -- the brackets that are open after a token
 abbrev pub open_after_token : List ℕ → List ℕ → List ℕ
-open_after_token opened (b ∷ []) = if is_opening_bracket b then b ∷ opened else (if is_closing_bracket b then drop 1 opened else opened)
+open_after_token opened (b ∷ []) =
+    if is_opening_bracket b then b ∷ opened else (if is_closing_bracket b then drop 1 opened else opened)
 open_after_token opened _ = opened
-
-abbrev pub is_bracket : (ℕ → Bool) → List ℕ → Bool
-is_bracket test (b ∷ []) = test b
-is_bracket test _ = false
 
 -- the tokens of the brackets that are open after a list of tokens
 abbrev pub open_tokens : List Placed → List Placed → List Placed
 open_tokens opened [] = opened
 open_tokens opened (t ∷ ts) =
-    open_tokens (if is_bracket is_opening_bracket t.text then t ∷ opened else (if is_bracket is_closing_bracket t.text then drop 1 opened else opened)) ts
+    open_tokens
+    (if is_one is_opening_bracket t.text then t ∷ opened
+    else (if is_one is_closing_bracket t.text then drop 1 opened else opened)) ts

@@ -29,7 +29,7 @@ abbrev pub takes_on : Option Opener → List Line → List ℕ → Bool
 takes_on None block text = false
 takes_on (Some word) block text = not (list_any (λ l. l.broken) block) && goes_on word text
 
--- comment lines alone take any line; a blank line and a statement none but those of its block
+-- comment lines alone take any line, a statement the lines of its block and no other, a blank line none
 abbrev pub is_followed : List Line → List ℕ → Bool
 is_followed [] text = true
 is_followed (l ∷ ls) text = takes_on (block_word l.kind l.text) (l ∷ ls) text
@@ -41,5 +41,6 @@ chunk_goes_on chunk next = is_followed (after_comments chunk) next.text
 abbrev pub text_of : List Line → List ℕ
 text_of ls = concat (map (λ l. l.text) ls)
 
+-- the chunks of a file, in order
 abbrev pub chunks : List ℕ → List (List ℕ)
 chunks bytes = map text_of (grouped chunk_goes_on (lines bytes))

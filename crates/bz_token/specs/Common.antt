@@ -1,7 +1,8 @@
 -- Words on lists and options that the definitions share.
--- Begin with `is_empty`, `is_filled`, `first_of` and `map_or`.
-use Rattle.std.specs.Prelude.{List, [], ◌∷◌, Bool, true, false, Option, None, Some}
+-- Begin with `is_empty`, `is_filled`, `first_of`, `begins` and `map_or`.
+use Rattle.std.specs.Prelude.{ℕ, List, [], ◌∷◌, Bool, true, false, Option, None, Some}
 
+-- a list without elements, and one with some (of any type: `{ℓ}` is its level, which says nothing here)
 abbrev pub is_empty {ℓ} : {A : Type ℓ} → List A → Bool
 is_empty [] = true
 is_empty (x ∷ xs) = false
@@ -13,6 +14,11 @@ is_filled (x ∷ xs) = true
 abbrev pub first_of : {A : Type 0} → List A → Option A
 first_of [] = None
 first_of (x ∷ xs) = Some x
+
+-- the first of these numbers passes the test
+abbrev pub begins : (ℕ → Bool) → List ℕ → Bool
+begins test [] = false
+begins test (b ∷ bs) = test b
 
 -- f of the value, or what stands for none
 abbrev pub map_or : {A B : Type 0} → B → (A → B) → Option A → B

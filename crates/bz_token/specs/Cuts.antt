@@ -1,4 +1,5 @@
--- Where a chunk ends; and what of it a `Cutter` answers, the code that takes a file line by line (`src/cutter.rt`).
+-- Where a chunk ends; and what of it a `Cutter` answers, the code that takes a file line by line (`src/cutter.rt`; this project's
+-- own rule).
 -- Begin with `EndsBefore`.
 use Rattle.std.specs.Prelude.{◌≡◌, ◌<◌, ◌++◌, length, ℕ, List, [], ◌∷◌, Bool, true, false, not, ◌&&◌, ◌==◌}
 use Rattle.bz_token.specs.declared.cutter.block.Opener.{Opener}
@@ -25,7 +26,7 @@ abbrev pub first_line : List ℕ → List ℕ
 first_line [] = []
 first_line (b ∷ bs) = b ∷ elim (b == 10) [ true ↦ [] | false ↦ first_line bs ]
 
--- The bytes are the first chunk where this follows.
+-- The bytes are the first chunk where this follows, and the other chunks are those of the rest.
 abbrev pub EndsBefore : List ℕ → List ℕ → Type 0
 EndsBefore bytes rest = chunks (bytes ++ rest) ≡ bytes ∷ chunks rest
 

@@ -4,8 +4,9 @@ use Rattle.std.specs.List.{list_all, prefix_len}
 use Rattle.bz_token.specs.declared.token.Kind.{Kind}
 use Rattle.bz_token.specs.declared.token.Kind.TheVariants.{Identifier, Keyword, Integer, String, Operator, Newline, Comment, Kept}
 use Rattle.bz_token.specs.declared.scan_string.Opening.{Opening}
-use Rattle.bz_token.specs.Pieces.{is_quote}
-use Rattle.bz_token.specs.Lexical.{is_word_byte, is_blank, is_newline, is_one_of, is_operator_text, opening}
+use Rattle.bz_token.specs.Strings.{is_quote, opening}
+use Rattle.bz_token.specs.Lexical.{is_word_byte, is_newline, is_one_of, is_operator_text}
+use Rattle.bz_token.specs.Pieces.{is_blank}
 
 abbrev pub is_prefix : List ℕ → Bool
 is_prefix text = is_one_of (codes "r" ∷ codes "b" ∷ codes "rb" ∷ codes "br" ∷ []) text

@@ -5,10 +5,12 @@ use Rattle.std.specs.Prelude.{◌≡◌, ◌≢◌, ℕ, ◌≤◌, ◌<◌, Lis
 use Rattle.std.specs.Char.{is_ascii_digit}
 use Rattle.bz_token.specs.declared.fault.LexFault.{LexFault}
 use Rattle.bz_token.specs.declared.fault.LexFault.TheVariants.{OutOfMemory, BadCharacter, BadNumber, OpenText, BadBracket, OpenBracket, TooDeep, BadBackslash}
-use Rattle.bz_token.specs.Lexical.{begins, opening, HasNoToken}
+use Rattle.bz_token.specs.Lexical.{HasNoToken}
 use Rattle.bz_token.specs.Brackets.{is_opening_bracket, is_closing_bracket, is_inside, closes_innermost, open_tokens}
 use Rattle.bz_token.specs.Reading.{Piece, is_gap, begins_gap, IsReading, open_after, bytes_of, tokens_of}
 use Rattle.bz_token.specs.Places.{Placed, line_at, column_at}
+use Rattle.bz_token.specs.Common.{begins}
+use Rattle.bz_token.specs.Strings.{opening}
 
 -- a string opens here, and no quotes close it
 pub record IsOpenText (place : List ℕ) : Type 0 where
@@ -65,7 +67,7 @@ pub record IsOpenBracket (first depth : ℕ) (bytes : List ℕ) (line col : ℕ)
   pub line_is : line ≡ bracket.line
   pub col_is : col ≡ bracket.col
 
--- The first fault of the text from left to right. That memory was refused says nothing of the text, so it holds of each; `IsLexical`
+-- The first fault of the text from left to right. That memory was refused says nothing of the text, so it holds of each; `IsFaultIn`
 -- (bz_tree `Chunk`) leaves it out.
 abbrev pub IsFault : ℕ → ℕ → List ℕ → LexFault → Type 0
 IsFault first depth bytes (OutOfMemory _) = Unit {0}

@@ -1,31 +1,21 @@
 -- The texts of each kind of token (Starlark specification, "Lexical elements"), each a test of a whole text, and which of
 -- them count at a place.
 -- Begin with `IsToken`.
-use Rattle.std.specs.Prelude.{ℕ, ◌+◌, ◌≡◌, List, [], ◌∷◌, ◌++◌, length, drop, Bool, true, false, not, ◌&&◌, ◌||◌, ◌==◌, if◌then◌else◌, nat_le, codes, bytes_eq, Option, Some, None}
+use Rattle.std.specs.Prelude.{ℕ, ◌≡◌, List, [], ◌∷◌, ◌++◌, length, Bool, true, false, not, ◌&&◌, ◌||◌, ◌==◌, nat_le, codes, bytes_eq, Some, None}
 use Rattle.std.specs.List.{list_all, list_any, prefix_len}
 use Rattle.std.specs.Char.{is_ascii_digit, is_ascii_hexdigit, is_ascii_alphabetic}
 use Rattle.bz_token.specs.declared.token.Kind.{Kind}
-use Rattle.bz_token.specs.declared.scan_string.Quotes.{Quotes}
-use Rattle.bz_token.specs.declared.scan_string.Opening.{Opening}
 use Rattle.bz_token.specs.declared.token.Kind.TheVariants.{Identifier, Keyword, Integer, String, Operator, Newline, Comment, Kept}
-use Rattle.bz_token.specs.Pieces.{is_byte, is_quote, units, but_last, stops_short, three_in_a_row}
-use Rattle.bz_token.specs.Common.{is_empty, map_or}
+use Rattle.bz_token.specs.Strings.{opening, is_string}
+use Rattle.bz_token.specs.Pieces.{is_blank}
+use Rattle.bz_token.specs.Common.{begins, is_empty, map_or}
 
 -- ASCII letters, digits and underscores
 abbrev pub is_word_byte : ℕ → Bool
 is_word_byte b = is_ascii_alphabetic b || is_ascii_digit b || b == 95
 
--- white space within a line: space, tab and carriage return
-abbrev pub is_blank : ℕ → Bool
-is_blank b = b == 32 || b == 9 || b == 13
-
 abbrev pub is_newline : ℕ → Bool
 is_newline b = b == 10
-
--- the first byte passes the test
-abbrev pub begins : (ℕ → Bool) → List ℕ → Bool
-begins test [] = false
-begins test (b ∷ bs) = test b
 
 abbrev pub is_one_of : List (List ℕ) → List ℕ → Bool
 is_one_of texts text = list_any (bytes_eq text) texts
@@ -67,47 +57,6 @@ operators =
 
 abbrev pub is_operator_text : List ℕ → Bool
 is_operator_text text = is_one_of operators text
-
--- so many quotes in a row close a string
-abbrev pub closing_row : Bool → ℕ
-closing_row false = 1
-closing_row true = 3
-
--- A string's inside, as units (an escape is one): its closing quotes end it, and stand nowhere before. One closes a short
--- string, in which no newline is a unit; three in a row close a long one.
-abbrev pub is_closed_inside : Quotes → List (List ℕ) → Bool
-is_closed_inside quotes inside = elim quotes.long [
-  | false ↦ list_any (is_byte quotes.byte) inside && not (list_any (stops_short quotes.byte) (but_last inside))
-  | true ↦ three_in_a_row quotes.byte 0 inside && not (three_in_a_row quotes.byte 0 (but_last inside))
-]
-
-abbrev pub are_two : ℕ → List ℕ → Bool
-are_two q [] = false
-are_two q (a ∷ bs) = a == q && begins (λ b. b == q) bs
-
-abbrev pub opens_after : ℕ → List ℕ → Option Opening
-opens_after prefix [] = None
-opens_after prefix (q ∷ bs) = if is_quote q then Some (record { prefix = prefix; quotes = record { byte = q; long = are_two q bs } }) else None
-
--- `r`, `b`, `rb` and `br`
-abbrev pub prefix_letters : List ℕ → ℕ
-prefix_letters [] = 0
-prefix_letters (a ∷ bs) =
-    if a == 114 then (if begins (λ b. b == 98) bs then 2 else 1) else (if a == 98 then (if begins (λ b. b == 114) bs then 2 else 1) else 0)
-
--- the string that begins at a place, by its first bytes
-abbrev pub opening : List ℕ → Option Opening
-opening place = opens_after (prefix_letters place) (drop (prefix_letters place) place)
-
-abbrev pub opening_length : Opening → ℕ
-opening_length o = o.prefix + closing_row o.quotes.long
-
-abbrev pub is_closed : Option Opening → List ℕ → Bool
-is_closed None text = false
-is_closed (Some o) text = is_closed_inside o.quotes (units (drop (opening_length o) text))
-
-abbrev pub is_string : List ℕ → Bool
-is_string text = is_closed (opening text) text
 
 -- a number sign and what follows it on its line, without trailing white space
 abbrev pub ends_blank : List ℕ → Bool

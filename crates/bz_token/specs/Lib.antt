@@ -9,6 +9,7 @@ pub mod Lengths
 pub mod UpToFault
 pub mod FreshStart
 pub mod Groups
+pub mod Strings
 pub mod Munch
 pub mod Pieces
 pub mod LogicalLines

@@ -1,4 +1,5 @@
--- Where a token stands: its line from the newlines before it, its column in bytes from the newline before it.
+-- Where a token stands: its line from the newlines before it, its column in bytes from the newline before it (this project's
+-- own rule).
 -- Begin with `Placed`, `line_at` and `column_at`.
 use Rattle.std.specs.Prelude.{ℕ, ◌+◌, List, [], ◌∷◌, count_by, ◌==◌, Bool, if◌then◌else◌}
 use Rattle.bz_token.specs.declared.token.Kind.{Kind}
@@ -24,6 +25,6 @@ pub record Placed : Type 0 where
   pub col : ℕ
   pub fresh : Bool
 
--- the value of a token
+-- a token of the code, with its text as bytes
 abbrev pub placed : Token → Placed
 placed t = record { kind = t.kind; text = t.text.now; line = t.line; col = t.col; fresh = t.fresh }

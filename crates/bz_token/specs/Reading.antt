@@ -1,40 +1,23 @@
 -- What a text is read as: gaps and tokens in turn, each token the longest at its place (Starlark specification, "Lexical
 -- elements").
 -- Begin with `AreTokensOf`.
-use Rattle.std.specs.Prelude.{◌≡◌, ℕ, List, [], ◌∷◌, ◌++◌, take, Bool, true, false, not, ◌&&◌, ◌||◌, ◌==◌, bytes_eq}
-use Rattle.std.specs.List.{list_any}
+use Rattle.std.specs.Prelude.{◌≡◌, ℕ, List, [], ◌∷◌, ◌++◌, Bool, true, false, not, ◌==◌}
+use Rattle.std.specs.List.{list_any, list_all}
 use Rattle.bz_token.specs.declared.token.Kind.{Kind}
-use Rattle.bz_token.specs.Lexical.{is_blank, begins, IsToken}
+use Rattle.bz_token.specs.Lexical.{IsToken}
 use Rattle.bz_token.specs.Brackets.{is_inside, fits, open_after_token}
 use Rattle.bz_token.specs.Places.{line_at, column_at, Placed}
+use Rattle.bz_token.specs.Common.{first_of, map_or}
+use Rattle.bz_token.specs.Strings.{units}
+use Rattle.bz_token.specs.Pieces.{is_space}
 
--- white space: blanks, and newlines inside brackets
-abbrev pub is_white : Bool → ℕ → Bool
-is_white inside b = is_blank b || (inside && b == 10)
+-- white space and continued lines; newlines too, where this is inside brackets (`inside`)
+abbrev pub is_gap : Bool → List ℕ → Bool
+is_gap inside bytes = list_all (is_space inside) (units bytes)
 
--- A gap is white space and continued lines: a backslash directly before a newline, or before a carriage return and a newline.
-abbrev mutual
-  pub is_gap : Bool → List ℕ → Bool
-  is_gap inside [] = true
-  is_gap inside (b ∷ bs) = elim (is_white inside b) [ true ↦ is_gap inside bs | false ↦ b == 92 && continues_gap inside bs ]
-
-  -- after a backslash
-  pub continues_gap : Bool → List ℕ → Bool
-  continues_gap inside [] = false
-  continues_gap inside (b ∷ bs) = elim (b == 13) [ true ↦ feeds_gap inside bs | false ↦ b == 10 && is_gap inside bs ]
-
-  -- after a backslash and a carriage return
-  pub feeds_gap : Bool → List ℕ → Bool
-  feeds_gap inside [] = false
-  feeds_gap inside (b ∷ bs) = b == 10 && is_gap inside bs
-
--- a continued line stands here
-abbrev pub continues : List ℕ → Bool
-continues place = bytes_eq (take 2 place) (92 ∷ 10 ∷ []) || bytes_eq (take 3 place) (92 ∷ 13 ∷ 10 ∷ [])
-
--- a gap stands here
+-- a gap begins here
 abbrev pub begins_gap : Bool → List ℕ → Bool
-begins_gap inside place = begins (is_white inside) place || continues place
+begins_gap inside place = map_or false (is_space inside) (first_of (units place))
 
 -- a gap, and the token after it
 pub record Piece : Type 0 where
@@ -52,7 +35,9 @@ pub record IsPiece (depth : ℕ) (opened : List ℕ) (piece : Piece) (bytes afte
 -- the bytes are these pieces and then the rest
 abbrev pub IsReading : ℕ → List ℕ → List Piece → List ℕ → List ℕ → Type 0
 IsReading depth opened [] rest bytes = bytes ≡ rest
-IsReading depth opened (p ∷ ps) rest bytes = (after : List ℕ) × IsPiece depth opened p bytes after × IsReading depth (open_after_token opened p.text) ps rest after
+IsReading depth opened (p ∷ ps) rest bytes =
+    (after : List ℕ) × IsPiece depth opened p bytes after
+    × IsReading depth (open_after_token opened p.text) ps rest after
 
 -- the brackets that are open after pieces
 abbrev pub open_after : List ℕ → List Piece → List ℕ

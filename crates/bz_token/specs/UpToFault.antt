@@ -19,11 +19,6 @@ read_before first depth bytes (OpenBracket line col) is = is.pieces
 read_before first depth bytes (TooDeep line col) is = is.pieces
 read_before first depth bytes (BadBackslash line col) is = is.pieces
 
--- this is the first fault, and these gaps and tokens stand before it
-abbrev pub IsFaultAfter : ℕ → ℕ → List ℕ → List Piece → LexFault → Type 0
-IsFaultAfter first depth bytes pieces fault =
-    (fault ≢ OutOfMemory no_memory) × (is : IsFault first depth bytes fault) × (read_before first depth bytes fault is ≡ pieces)
-
 -- These are the tokens of the whole text, and it has no fault; or this is its first fault, and these are the tokens before.
 -- Want of memory is none of the text's.
 abbrev pub IsReadAs : ℕ → ℕ → List ℕ → List Placed → Option LexFault → Type 0

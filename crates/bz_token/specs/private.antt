@@ -1,4 +1,6 @@
 pub mod Closing
+pub mod StringPieces
+pub mod Gaps
 pub mod CutSteps
 pub mod Decided
 pub mod Scans

@@ -3,7 +3,8 @@
 ghost use Rattle.std.specs.Prelude.{◌≡◌, ◌≤◌, ◌<◌, ◌+◌, ◌-◌, ◌||◌, true, false, length, map, IfSome, IfNone, OnOk, IfErr, [], ◌∷◌, Err, List};
 ghost use Rattle.bz_token.specs.Places.{Placed, placed};
 ghost use Rattle.bz_token.specs.declared.brackets.Bracket.TheVariants.{Opening, Closing, Neither};
-ghost use Rattle.bz_token.specs.Brackets.{is_opening_bracket, is_closing_bracket, is_pair, is_inside, is_bracket, bracket_fits, closes_innermost, open_tokens, open_after_token};
+ghost use Rattle.bz_token.specs.Brackets.{is_opening_bracket, is_closing_bracket, is_pair, is_inside, bracket_fits, closes_innermost, open_tokens, open_after_token};
+ghost use Rattle.bz_token.specs.Pieces.{is_one};
 
 use crate::gap::Position;
 use crate::table::{ByteClass, class_at};
@@ -112,11 +113,11 @@ enum Bracket {
 }
 
 fn bracket_of(text: &[u8]) -> Bracket
-    ensures opening { result ≡ Opening → is_bracket is_opening_bracket text.now ≡ true }
-    ensures closing { result ≡ Closing → (is_bracket is_opening_bracket text.now ≡ false)
-        × (is_bracket is_closing_bracket text.now ≡ true) }
-    ensures neither { result ≡ Neither → (is_bracket is_opening_bracket text.now ≡ false)
-        × (is_bracket is_closing_bracket text.now ≡ false) }
+    ensures opening { result ≡ Opening → is_one is_opening_bracket text.now ≡ true }
+    ensures closing { result ≡ Closing → (is_one is_opening_bracket text.now ≡ false)
+        × (is_one is_closing_bracket text.now ≡ true) }
+    ensures neither { result ≡ Neither → (is_one is_opening_bracket text.now ≡ false)
+        × (is_one is_closing_bracket text.now ≡ false) }
 {
     match text {
         [b'(' | b'[' | b'{'] => Bracket::Opening,

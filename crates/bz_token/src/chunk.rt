@@ -1,9 +1,9 @@
 //! The chunk that a text begins with, and its tokens, in one walk.
 
-ghost use Rattle.std.specs.Prelude.{◌≡◌, ◌↔◌, ◌+◌, ◌<◌, ◌^◌, ◌==◌, ℕ, count_by, map, IfOk, IsTrue, if◌then◌else◌};
+ghost use Rattle.std.specs.Prelude.{◌≡◌, ◌+◌, ◌<◌, ◌^◌, ◌==◌, ℕ, count_by, map, IfOk, IfSome};
 ghost use Rattle.std.specs.List.{list_all};
 ghost use Rattle.bz_token.specs.Places.{placed};
-ghost use Rattle.bz_token.specs.FirstChunk.{IsFront};
+ghost use Rattle.bz_token.specs.FirstChunk.{IsFirstChunk};
 ghost use Rattle.bz_token.specs.private.LineEnds.{is_newline_token, is_comment_token, begins_block, line_end};
 
 use crate::brackets::Brackets;
@@ -22,17 +22,6 @@ pub struct FirstChunk<'a> {
     pub tokens: &'a [Token<'a>],
     /// What follows the chunk.
     pub rest: &'a str,
-}
-
-/// What a text begins with.
-#[derive(Clone, Copy)]
-pub enum Front<'a> {
-    /// A chunk, whatever follows the text.
-    Chunk(FirstChunk<'a>),
-    /// A part of a chunk: the text ends before its chunk does.
-    Short,
-    /// What only `Cutter` and `tokens` tell: the chunk has a lexical fault, or may begin a block.
-    Other,
 }
 
 // What a logical line says of its chunk.
@@ -89,34 +78,18 @@ fn line_end(line: &[Token<'_>]) -> LineEnd
 // Room for the tokens of most chunks.
 const FIRST_CAPACITY: usize = 128;
 
-// Whether the fault is a string that nothing closes and that begins on this line.
-fn is_open_on(fault: LexFault, at: u64) -> bool
-    ensures { IsTrue result ↔ ((col : ℕ) × (fault ≡ LexFault.OpenText at col)) }
-{
-    match fault {
-        LexFault::OpenText { line, .. } => line == at,
-        _ => false,
-    }
-}
-
-// What a text begins with that shows no chunk.
-fn short_if(is_short: bool) -> Front<'static>
-    ensures { result ≡ (if is_short then Front.Short else Front.Other) }
-{
-    if is_short { Front::Short } else { Front::Other }
-}
-
-/// Finds the chunk that the text begins with, and its tokens, where the chunk ends there whatever follows the text; or
-/// says that the text ends before its chunk does. `first_line` is the number of the text's first line. More than
-/// `max_depth` brackets open at once are a fault. `Err`: allocation failed.
+/// Finds the chunk that the text begins with, and its tokens, where the chunk ends there whatever follows the text.
+/// `first_line` is the number of the text's first line, from 1. More than `max_depth` brackets open at once are a
+/// lexical fault. None, which `Cutter` and `tokens` tell apart: the text ends before its chunk does, that has a lexical
+/// fault, or it may be a block. `Err`: allocation failed.
 pub fn first_chunk<'a>(
     bump: &'a Bump,
     text: &'a str,
     first_line: u64,
     max_depth: u8,
-) -> Result<Front<'a>, NoMemory>
+) -> Result<Option<FirstChunk<'a>>, NoMemory>
     requires { first_line + count_by (λ b. b == 10) text.now < 2 ^ 64 }
-    ensures front { IfOk result (IsFront first_line max_depth text.now) }
+    ensures { IfOk result (λ found. IfSome found (IsFirstChunk first_line max_depth text.now)) }
 {
     let mut lexer = Lexer {
         tokens: with_capacity(bump, FIRST_CAPACITY)?,
@@ -129,24 +102,24 @@ pub fn first_chunk<'a>(
         let (next, ends) = match lexer.read_line(cursor, max_depth, usize::MAX) {
             Ok(passed) => passed,
             Err(LexFault::OutOfMemory(why)) => return Err(why),
-            Err(fault) => return Ok(short_if(is_open_on(fault, cursor.end_line()))),
+            Err(_) => return Ok(None),
         };
         // The list of tokens is never full.
         if !ends {
-            return Ok(Front::Short);
+            return Ok(None);
         }
         cursor = next;
         match line_end(lexer.tokens_from(line_start)) {
             LineEnd::Joins => line_start = lexer.tokens.len(),
             LineEnd::Ends => {
-                return Ok(Front::Chunk(FirstChunk {
+                return Ok(Some(FirstChunk {
                     text: text.split_at(text.len() - cursor.rest.len()).0,
                     tokens: into_bump_slice(lexer.tokens),
                     rest: cursor.rest,
                 }));
             }
-            LineEnd::Block => return Ok(Front::Other),
+            LineEnd::Block => return Ok(None),
         }
     }
-    Ok(Front::Short)
+    Ok(None)
 }

@@ -3,9 +3,10 @@
 ghost use Rattle.std.specs.Prelude.{◌≡◌, ◌<◌, ◌≤◌, ◌+◌, ◌^◌, ◌==◌, slice_index, Bool, true, false, length, drop, count_by, if◌then◌else◌, IfSome, IfNone};
 ghost use Rattle.std.specs.List.{prefix_len};
 ghost use Rattle.bz_token.specs.Places.{column_from};
-ghost use Rattle.bz_token.specs.Lexical.{is_blank, begins};
+ghost use Rattle.bz_token.specs.Pieces.{is_blank};
 ghost use Rattle.bz_token.specs.Reading.{begins_gap};
 ghost use Rattle.bz_token.specs.private.Steps.{IsGapHere};
+ghost use Rattle.bz_token.specs.Common.{begins};
 
 use crate::scan::is_blank;
 use std::simd::prelude::*;

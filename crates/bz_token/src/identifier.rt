@@ -5,7 +5,7 @@ ghost use Rattle.std.specs.Char.{is_ascii_digit};
 ghost use Rattle.std.specs.List.{list_all};
 ghost use Rattle.bz_token.specs.declared.token.Kind.TheVariants.{Identifier};
 ghost use Rattle.bz_token.specs.Lexical as spec;
-ghost use Rattle.bz_token.specs.Common.{is_empty};
+ghost use Rattle.bz_token.specs.Common.{begins, is_empty};
 
 use crate::scan::is_keyword;
 use crate::table::is_word_byte;
@@ -27,7 +27,7 @@ fn is_name(bytes: &[u8]) -> bool
 /// Whether letters, digits and underscores are a name: there are some, and the first is no digit.
 #[inline(always)]
 pub fn begins_name(word: &[u8]) -> bool
-    ensures { result ≡ (not (is_empty word.now) && not (spec.begins is_ascii_digit word.now)) }
+    ensures { result ≡ (not (is_empty word.now) && not (begins is_ascii_digit word.now)) }
 {
     match word.split_first() {
         None => false,

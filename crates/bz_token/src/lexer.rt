@@ -4,7 +4,7 @@
 ghost use Rattle.std.specs.Prelude.{◌≡◌, ◌≤◌, ◌<◌, ◌+◌, ◌^◌, ◌==◌, ◌⊎◌, ◌↔◌, [], List, ℕ, max, true, false, not, length, take, drop, count_by, map, IfOk, IfErr, IsTrue, Some, None, nat_eq};
 ghost use Rattle.std.specs.Option.{option_eq};
 ghost use Rattle.std.specs.List.{list_any};
-ghost use Rattle.bz_token.specs.Lexical.{begins, is_newline};
+ghost use Rattle.bz_token.specs.Lexical.{is_newline};
 ghost use Rattle.bz_token.specs.Faults.{IsFault};
 ghost use Rattle.bz_token.specs.Brackets.{open_tokens, is_inside};
 ghost use Rattle.bz_token.specs.declared.token.Kind.TheVariants.{Operator};
@@ -12,8 +12,9 @@ ghost use Rattle.bz_token.specs.Places.{Placed, placed, column_from};
 ghost use Rattle.bz_token.specs.Reading.{AreTokensOf};
 ghost use Rattle.bz_token.specs.private.Scans.{opened, bad_fault, misfit_fault, IsLeftOpen};
 ghost use Rattle.bz_token.specs.private.Steps.{IsGapHere, IsTaken, IsTakenAs, IsRefused};
-ghost use Rattle.bz_token.specs.private.LinesRead.{EndsLine, StaysInLine, IsOnLine, IsOpenFrom, IsStopped, IsFaultFrom, IsFaultOfLine};
+ghost use Rattle.bz_token.specs.private.LinesRead.{EndsLine, IsFaultFrom};
 ghost use Rattle.bz_token.specs.private.Progress.{HasRead, HasReadIn, IsTokenHere, Grows, ReadsOn, IsReadTo, IsReadAt, PassesWhite};
+ghost use Rattle.bz_token.specs.Common.{begins};
 
 use crate::brackets::{Brackets, Misfit, innermost, is_bracket_byte};
 use crate::fault::LexFault;
@@ -129,14 +130,6 @@ impl<'a> Cursor<'a> {
             place: Position::start(first_line),
             last_line: None,
         }
-    }
-
-    /// The line on which the text ends.
-    pub fn end_line(self) -> u64
-        requires { (lexer : _) × IsReadTo lexer self }
-        ensures { result ≡ self.entry.place.line + count_by (λ b. b == 10) self.entry.rest.now }
-    {
-        advance(self.place, self.rest.as_bytes()).line
     }
 }
 
@@ -259,10 +252,6 @@ impl<'b, 'a> Lexer<'b, 'a> {
         ensures one_more { IfOk result (λ passed. length self.new.tokens.items ≤ length self.old.tokens.items + 1) }
         ensures fault { (first : ℕ) (bytes : List ℕ) (given : List Placed)
             → HasRead first max_depth bytes given self.old cursor.entry → IfErr result (IsFault first max_depth bytes) }
-        ensures stands { (first : ℕ) (bytes : List ℕ) (given : List Placed)
-            (before : HasRead first max_depth bytes given self.old cursor.entry)
-            → IfErr result (IsStopped first max_depth bytes before.pieces) }
-        ensures open_text { IfErr result (IsOnLine cursor.entry.place.line) }
     {
         let bytes = cursor.rest.as_bytes();
         match read_step(&mut self.brackets, bytes, max_depth, cursor.place) {
@@ -289,13 +278,7 @@ impl<'b, 'a> Lexer<'b, 'a> {
         ensures read { IfOk result (λ passed. ReadsOn max_depth self.old cursor.entry self.new passed.0) }
         ensures line { IfOk result (λ passed.
             IsTrue passed.1 → EndsLine max_depth self.old cursor.entry self.new passed.0) }
-        ensures in_line { IfOk result (λ passed.
-            passed.1 ≡ false → StaysInLine max_depth self.old cursor.entry self.new passed.0) }
-        ensures open_text { IfErr result (IsOpenFrom max_depth self.old cursor.entry) }
-        ensures fault_in_line { IfErr result (IsFaultOfLine max_depth self.old cursor.entry) }
         ensures shorter { IfOk result (λ passed. length passed.0.rest.now < length cursor.entry.rest.now) }
-        ensures open { IfOk result (λ passed. passed.1 ≡ false
-            → (passed.0.rest.now ≡ []) ⊎ (most ≤ length self.new.tokens.items)) }
         ensures few { IfOk result (λ passed. length self.new.tokens.items ≤ max most (length self.old.tokens.items + 1)) }
         ensures fault { IfErr result (IsFaultFrom max_depth self.old cursor.entry) }
     {

@@ -21,7 +21,7 @@ mod token_list;
 mod utf8;
 mod word;
 
-pub use chunk::{FirstChunk, Front, first_chunk};
+pub use chunk::{FirstChunk, first_chunk};
 pub use cutter::{Cut, Cutter, Next};
 pub use fault::LexFault;
 pub use identifier::is_identifier;

@@ -2,9 +2,9 @@
 
 ghost use Rattle.std.specs.Prelude.{◌≡◌, ◌≤◌, ◌<◌, ◌-◌, ℕ, Some, true, false, length, take, slice_index, IfSome, IfNone};
 ghost use Rattle.std.specs.List.{list_any};
-ghost use Rattle.bz_token.specs.Pieces.{is_quote};
-ghost use Rattle.bz_token.specs.Lexical.{is_newline, closing_row, prefix_letters, are_two, opening};
-ghost use Rattle.bz_token.specs.private.Closing.{is_escaped, escape_after, closes};
+ghost use Rattle.bz_token.specs.Strings.{is_quote, closing_row, are_two, opening};
+ghost use Rattle.bz_token.specs.Lexical.{is_newline};
+ghost use Rattle.bz_token.specs.private.Closing.{is_escaped, escape_after, closes, prefix_letters};
 ghost use Rattle.bz_token.specs.declared.scan_string.Escape.TheVariants.{Unescaped};
 
 use crate::plain::plain_len;

@@ -3,7 +3,7 @@
 ghost use Rattle.std.specs.Prelude.{◌≡◌, ◌<◌, ◌==◌, ◌||◌, ℕ, List, Bool, Some, None, true, false, length, slice_index, IfOk, IfErr, IfSome, IfNone};
 ghost use Rattle.bz_token.specs.declared.token.Kind.TheVariants.{Comment, Integer, Operator, String};
 ghost use Rattle.std.specs.Char.{is_ascii_digit};
-ghost use Rattle.bz_token.specs.Lexical.{begins, opening, is_word_byte};
+ghost use Rattle.bz_token.specs.Lexical.{is_word_byte};
 ghost use Rattle.bz_token.specs.Brackets.{is_opening_bracket, is_closing_bracket};
 ghost use Rattle.bz_token.specs.Faults.{IsOpenText};
 ghost use Rattle.bz_token.specs.Lengths.{word_length};
@@ -11,6 +11,8 @@ ghost use Rattle.bz_token.specs.Reading.{begins_gap};
 ghost use Rattle.bz_token.specs.private.Scans.{IsScanned, IsBadPlace};
 ghost use Rattle.bz_token.specs.private.Steps.{IsStep, IsTakenAs, IsTokenStep, IsBadStep};
 ghost use Rattle.bz_token.specs.private.Tables.{is_single, IsMark};
+ghost use Rattle.bz_token.specs.Common.{begins};
+ghost use Rattle.bz_token.specs.Strings.{opening};
 
 use crate::gap::{TokenGap, blanks, continued, newline};
 use crate::lengths::integer_len;

@@ -8,11 +8,11 @@ use Rattle.bz_token.specs.declared.token.Kind.TheVariants.{Identifier, Keyword, 
 use Rattle.bz_token.specs.Places.{Placed}
 use Rattle.bz_tree.specs.declared.tree.Class.TheVariants.{Comment, Other}
 use Rattle.bz_tree.specs.declared.tree.GroupKind.TheVariants.{Call}
-use Rattle.bz_tree.specs.Tree.{group, no_items, item, no_segs, seg, Statement}
+use Rattle.bz_tree.specs.Tree.{Item, leaf, group, is_rule, no_items, item, no_segs, seg, Statement}
 use Rattle.bz_tree.specs.Brackets.{leaf_of}
 use Rattle.bz_tree.specs.Owners.{node, comma, comment, inside, no_empty}
 use Rattle.bz_tree.specs.Statement.{class_of, start_of}
-use Rattle.bz_tree.specs.Blocks.{block_indent, is_block}
+use Rattle.bz_tree.specs.Blocks.{above, block_indent, ends_open, has_header_colon, is_block, logical_lines}
 use Rattle.bz_tree.specs.Chunk.{indent_fault}
 use Rattle.bz_tree.specs.Comments.{Lists, owners_of, AreDealt}
 
@@ -62,8 +62,21 @@ not_first (list ∷ other ∷ front) back rest e = cc
 not_turned : AreDealt (a ∷ b ∷ []) ((b ∷ a ∷ []) ∷ []) → ⊥
 not_turned d = not_first d.1.front d.1.back d.1.rest d.1.lists_are
 
+-- `[ # a`, `x + # b`, `y`, `, # a`, `x # b`, `]`: above the last node of its segment, beside the comma, beside the last node
+between_operands : inside (comment 1 a ∷ node 2 (leaf_of x) ∷ comment 2 b ∷ node 3 (leaf_of x) ∷ comma (at Operator (codes ",") 4 1) ∷ comment 4 a ∷ node 5 (leaf_of x) ∷ comment 5 b ∷ [])
+    ≡ record { segs = record { before = a ∷ b ∷ []; nodes = leaf_of x ∷ leaf_of x ∷ []; suffix = Some a } ∷ record { before = []; nodes = leaf_of x ∷ []; suffix = Some b } ∷ []; trailing = false; end = [] }
+between_operands = refl
+
+-- beside the node and beside its comma: the first is the suffix
+two_beside : inside (node 1 (leaf_of x) ∷ comment 1 a ∷ comma (at Operator (codes ",") 2 1) ∷ comment 2 b ∷ comment 3 a ∷ []) ≡ record { segs = record { before = b ∷ []; nodes = leaf_of x ∷ []; suffix = Some a } ∷ []; trailing = true; end = a ∷ [] }
+two_beside = refl
+
+-- comments alone are end comments
+no_segment : inside (comment 1 a ∷ comment 2 b ∷ []) ≡ record { segs = []; trailing = false; end = a ∷ b ∷ [] }
+no_segment = refl
+
 -- no segment is empty
-two_commas : no_empty false (node 1 (leaf_of x) ∷ comma (at Operator (codes ",") 1 2) ∷ comma (at Operator (codes ",") 1 3) ∷ []) ≡ false
+two_commas : no_empty (node 1 (leaf_of x) ∷ comma (at Operator (codes ",") 1 2) ∷ comma (at Operator (codes ",") 1 3) ∷ []) ≡ false
 two_commas = refl
 
 -- `x = 1` and a comment
@@ -86,3 +99,39 @@ second_column = refl
 
 nothing_there : class_of [] ≡ Comment
 nothing_there = refl
+
+-- `x.x()` is a rule, `x.()` and `x()()` are none
+abbrev dot : Item
+dot = leaf Operator (codes ".")
+
+abbrev call : Item
+call = group Call no_segs false []
+
+dotted_rule : is_rule (leaf_of x ∷ dot ∷ leaf_of x ∷ call ∷ []) ≡ true
+dotted_rule = refl
+
+no_name : is_rule (leaf_of x ∷ dot ∷ call ∷ []) ≡ false
+no_name = refl
+
+two_calls : is_rule (leaf_of x ∷ call ∷ call ∷ []) ≡ false
+two_calls = refl
+
+-- two comment lines above `x`, which ends its line with a comment, and an empty line
+abbrev newline : Placed
+newline = at Newline (10 ∷ []) 1 9
+
+abbrev lines : List Placed
+lines = at CommentToken a 1 1 ∷ newline ∷ at CommentToken b 2 1 ∷ newline ∷ x ∷ at CommentToken a 3 3 ∷ newline ∷ newline ∷ []
+
+four_lines : logical_lines lines ≡ [] ∷ [] ∷ (x ∷ []) ∷ [] ∷ [] ∷ []
+four_lines = refl
+
+both_above : above lines ≡ a ∷ b ∷ []
+both_above = refl
+
+-- a colon in brackets is none of the header
+in_brackets_only : has_header_colon (at Keyword (codes "if") 1 1 ∷ at Operator (codes "[") 1 4 ∷ at Operator (codes ":") 1 5 ∷ at Operator (codes "]") 1 6 ∷ newline ∷ []) ≡ false
+in_brackets_only = refl
+
+last_colon : ends_open (x ∷ at Operator (codes ":") 1 2 ∷ []) ≡ true
+last_colon = refl

@@ -4,11 +4,17 @@ pub mod Borrowed
 pub mod Walking
 pub mod ByOwns
 pub mod OneBracket
+pub mod LastOf
+pub mod SameOwners
+pub mod Fors
+pub mod OneCell
+pub mod Nested
 pub mod Complete
 pub mod Sound
 pub mod Placed
 pub mod InPlace
 pub mod Plain
+pub mod LogicalLines
 pub mod BlockLines
 pub mod KeptText
 pub mod Standing

@@ -1,19 +1,20 @@
 -- Blocks: a statement that begins with `def`, `for` or `if` is kept as it was written (this project's own rule).
 -- Begin with `IsBlockOf`.
 -- Of later stops: 8 `Placed`, `column_at`, `line_at`, `opener_of`.
-use Rattle.std.specs.Prelude.{codes, ℕ, ◌+◌, ◌-◌, List, [], ◌∷◌, ◌++◌, Bool, true, false, not, if◌then◌else◌, ◌≡◌, ◌==◌, ◌&&◌, ◌||◌, nat_lt, Option, Some, None, is_some}
+use Rattle.std.specs.Prelude.{codes, ℕ, ◌+◌, ◌-◌, List, [], ◌∷◌, ◌++◌, map, find, Bool, true, false, not, if◌then◌else◌, ◌≡◌, ◌==◌, ◌&&◌, ◌||◌, nat_lt, Option, Some, None, is_some}
+use Rattle.std.specs.List.{last_or, slice_split, take_while}
 use Rattle.bz_token.specs.declared.token.Kind.{Kind}
 use Rattle.bz_token.specs.declared.token.Kind.TheVariants.{Keyword, Kept}
 use Rattle.bz_token.specs.Blocks.{opener_of}
 use Rattle.bz_token.specs.Places.{Placed, line_at, column_at}
 use Rattle.bz_tree.specs.declared.tree.Class.TheVariants.{Block}
 use Rattle.bz_tree.specs.declared.tree.kinds.Mark.{Mark}
-use Rattle.bz_tree.specs.declared.tree.kinds.Mark.TheVariants.{Open, Close, Comment, Newline}
-use Rattle.bz_tree.specs.Tree.{leaf, Statement}
-use Rattle.bz_tree.specs.Kinds.{mark_of, is_operator_at}
-use Rattle.bz_tree.specs.Brackets.{end_line}
-use Rattle.bz_tree.specs.Statement.{first_token, last_token, last_seen}
-use Rattle.bz_token.specs.Common.{map_or}
+use Rattle.bz_tree.specs.declared.tree.kinds.Mark.TheVariants.{Open, Close}
+use Rattle.bz_tree.specs.Tree.{leaf, is_operator_item, Statement}
+use Rattle.bz_tree.specs.Kinds.{mark_of}
+use Rattle.bz_tree.specs.Brackets.{leaf_of, end_line, is_line, without_lines}
+use Rattle.bz_tree.specs.Statement.{is_aside, bare_tokens, first_token, last_seen}
+use Rattle.bz_token.specs.Common.{is_filled, map_or}
 
 -- the words that begin a block, `opener_of` of bz_token
 abbrev pub is_block_word_at : Kind → List ℕ → Bool
@@ -24,21 +25,15 @@ abbrev pub is_block_word : Placed → Bool
 is_block_word t = is_block_word_at t.kind t.text
 
 abbrev pub is_colon : Placed → Bool
-is_colon t = is_operator_at (codes ":") t.kind t.text
+is_colon t = is_operator_item (codes ":") (leaf_of t)
 
--- The tokens of each logical line, without comments. A line without tokens is an empty list.
-abbrev pub in_front : Placed → List (List Placed) → List (List Placed)
-in_front t [] = (t ∷ []) ∷ []
-in_front t (line ∷ lines) = (t ∷ line) ∷ lines
+-- the last of these tokens is `:`
+abbrev pub ends_open : List Placed → Bool
+ends_open tokens = map_or false is_colon (last_or None tokens)
 
-abbrev pub with_token : Mark → Placed → List (List Placed) → List (List Placed)
-with_token Newline t lines = [] ∷ lines
-with_token Comment t lines = lines
-with_token _ t lines = in_front t lines
-
+-- The logical lines: what stands between newlines, without comments. A line without tokens is an empty list.
 abbrev pub logical_lines : List Placed → List (List Placed)
-logical_lines [] = [] ∷ []
-logical_lines (t ∷ ts) = with_token (mark_of t) t (logical_lines ts)
+logical_lines tokens = map bare_tokens (slice_split (λ t. is_line (mark_of t)) tokens)
 
 -- The columns of the lines that are still open are a stack, the innermost first. After the first token of a line: after a line that
 -- ends with `:` it stands deeper than the innermost line, else on a column of the stack, which is popped down to it. None: it is
@@ -50,11 +45,6 @@ indented false column [] = None
 indented false column (c ∷ columns) =
     if c == column then Some (c ∷ columns) else indented false column columns
 
--- the line ends with `:`; an empty one changes nothing
-abbrev pub ends_open : Bool → List Placed → Bool
-ends_open opens [] = opens
-ends_open opens (t ∷ ts) = ends_open (is_colon t) ts
-
 -- The line of the first logical line that is indented wrongly. `opens`: the line before ends with `:`. Blank lines and comment
 -- lines do not count.
 abbrev pub bad_line : List ℕ → Bool → List (List Placed) → Option ℕ
@@ -63,18 +53,12 @@ bad_line columns opens ([] ∷ lines) = bad_line columns opens lines
 bad_line columns opens ((t ∷ ts) ∷ lines) =
     elim (indented opens t.col columns) [
       | None ↦ Some t.line
-      | Some inner ↦ bad_line inner (ends_open (is_colon t) ts) lines
+      | Some inner ↦ bad_line inner (ends_open (t ∷ ts)) lines
     ]
 
 -- the line of the first logical line of a block, whose header stands in column 1, that is indented wrongly
 abbrev pub block_indent : List Placed → Option ℕ
 block_indent tokens = bad_line (1 ∷ []) false (logical_lines tokens)
-
--- the first logical line with a token
-abbrev pub header_line : List (List Placed) → List Placed
-header_line [] = []
-header_line ([] ∷ lines) = header_line lines
-header_line ((t ∷ ts) ∷ lines) = t ∷ ts
 
 abbrev pub depth_after : Mark → ℕ → ℕ
 depth_after (Open shape) depth = depth + 1
@@ -86,20 +70,17 @@ abbrev pub has_colon : ℕ → List Placed → Bool
 has_colon depth [] = false
 has_colon depth (t ∷ ts) = (depth == 0 && is_colon t) || has_colon (depth_after (mark_of t) depth) ts
 
--- A block of the grammar: `:` stands outside brackets in its header line, and its last line does not end with `:`.
+-- `:` stands outside brackets in the header, the first logical line with a token
+abbrev pub has_header_colon : List Placed → Bool
+has_header_colon tokens = map_or false (has_colon 0) (find is_filled (logical_lines tokens))
+
+-- A block of the grammar: `:` stands outside brackets in its header, and its last line does not end with `:`.
 abbrev pub is_block : List Placed → Bool
-is_block tokens =
-    has_colon 0 (header_line (logical_lines tokens)) && not (map_or false is_colon (last_token tokens))
+is_block tokens = has_header_colon tokens && not (ends_open (bare_tokens tokens))
 
 -- the comments above the first token
-abbrev pub above_at : Mark → List ℕ → List (List ℕ) → List (List ℕ)
-above_at Comment text later = text ∷ later
-above_at Newline text later = later
-above_at _ text later = []
-
 abbrev pub above : List Placed → List (List ℕ)
-above [] = []
-above (t ∷ ts) = above_at (mark_of t) t.text (above ts)
+above tokens = map (λ t. t.text) (without_lines (take_while (λ t. is_aside t.kind) tokens))
 
 -- After these bytes, which begin on line `first`, a token begins at its place.
 pub record IsAt (first : ℕ) (before : List ℕ) (t : Placed) : Type 0 where

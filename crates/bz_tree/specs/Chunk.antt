@@ -1,7 +1,8 @@
 -- The statement of a chunk, or its fault, by the chunk's tokens.
 -- Begin with `IsStatementIn`, `IsBlank` and `IsFaultIn`.
 -- Of later stops: 8 `AreTokensOf`, `IsFault`, `Placed`.
-use Rattle.std.specs.Prelude.{ℕ, List, Bool, true, false, if◌then◌else◌, ◌≡◌, ◌==◌, Option, Some, None, IsSome, IsNone}
+use Rattle.bz_memory.specs.NoMemory.{no_memory}
+use Rattle.std.specs.Prelude.{ℕ, List, Bool, true, false, if◌then◌else◌, ◌≡◌, ◌≢◌, ◌==◌, Option, Some, None, IsSome, IsNone}
 use Rattle.bz_token.specs.declared.fault.LexFault.{LexFault}
 use Rattle.bz_token.specs.declared.fault.LexFault.TheVariants.{OutOfMemory as LexOutOfMemory}
 use Rattle.bz_token.specs.Places.{Placed}
@@ -76,13 +77,9 @@ pub record HasTokenFault (first depth : ℕ) (bytes : List ℕ) (fault : ParseFa
   pub are : AreTokensOf first depth bytes tokens
   pub is : IsTokenFault first bytes tokens fault
 
-abbrev pub IsLexical : LexFault → Type 0
-IsLexical (LexOutOfMemory _) = ⊥
-IsLexical fault = Unit {0}
-
 -- The first fault of a chunk: lexical faults come before wrong indents, and these before the grammar. That memory was refused says
 -- nothing of the chunk, so it holds of each; `IsAnswerOf` (bz_engine `File`) leaves it out.
 abbrev pub IsFaultIn : ℕ → ℕ → List ℕ → ParseFault → Type 0
 IsFaultIn first depth bytes (OutOfMemory _) = Unit {0}
-IsFaultIn first depth bytes (Lex fault) = IsFault first depth bytes fault × IsLexical fault
+IsFaultIn first depth bytes (Lex fault) = IsFault first depth bytes fault × (fault ≢ LexOutOfMemory no_memory)
 IsFaultIn first depth bytes fault = HasTokenFault first depth bytes fault

@@ -1,6 +1,7 @@
 -- The grammar of a statement's nodes: its rows as a table, and what it is to have the form of a row.
--- The rows are those of the Starlark specification ("Grammar reference"), without blocks and `lambda`.
--- Nothing is evaluated, so a Binary has its operators in one list. Own to this project: an index is one Test.
+-- The rows are those of the Starlark specification ("Grammar reference") for one statement outside blocks, without `lambda`,
+-- floats and `;`. Nothing is evaluated, so precedence is left out: a Binary is Unaries with any binary operators between them.
+-- Own to this project: an index is one Test; the condition of an `if`, and what a `for` goes over, is one Binary.
 -- Begin with `IsStatement`.
 -- Of later stops: 8 `is_one_of`. It is in bz_token `Lexical`.
 use Rattle.std.specs.Prelude.{codes, ◌≡◌, ℕ, List, [], ◌∷◌, ◌++◌, Bool, true}
@@ -12,8 +13,11 @@ use Rattle.bz_tree.specs.Tree.{Item, leaf, group, Items, no_items, item, Segs, n
 use Rattle.bz_tree.specs.Statement.{augmented}
 use Rattle.bz_token.specs.Lexical.{is_one_of}
 
+-- `f then g or h` is `(f then g) or h`
 infixr 30 ◌then◌
 infixr 20 ◌or◌
+-- The rows. In the specification `Binary`, `Unary` and `Primary` are BinaryExpr, UnaryExpr and PrimaryExpr, and `Clauses` are
+-- CompClauses. `Suffix` and `Bracketed` are DotSuffix, CallSuffix and SliceSuffix, `Subscript` what stands in a SliceSuffix.
 pub data Row : Type 0 where
   Statement : Row
   LoadArgument : Row
@@ -46,6 +50,7 @@ pub data Form : Type 0 where
   -- any number of times, one after another
   many : Form → Form
 
+-- a keyword of this text, and a token of kind `Operator`
 abbrev pub word : List ℕ → Form
 word text = one_of Keyword (text ∷ [])
 
@@ -59,6 +64,7 @@ maybe f = nothing or f
 abbrev pub each_segment : Row → Form
 each_segment r = many (segment (row r))
 
+-- the prefix operators
 abbrev pub prefix : Form
 prefix = one_of Operator (codes "+" ∷ codes "-" ∷ codes "~" ∷ []) or word (codes "not")
 
@@ -71,17 +77,19 @@ binary_signs =
 abbrev pub binary_words : List (List ℕ)
 binary_words = codes "or" ∷ codes "and" ∷ codes "in" ∷ []
 
+-- the binary operators, of which `not in` is two tokens
 abbrev pub binary : Form
 binary =
     one_of Operator binary_signs or one_of Keyword binary_words or word (codes "not") then word (codes "in")
 
--- of an argument
+-- what may stand before an argument
 abbrev pub star : Form
 star = one_of Operator (codes "*" ∷ codes "**" ∷ [])
 
 abbrev pub assignment : Form
 assignment = one_of Operator (codes "=" ∷ augmented)
 
+-- The table: what each row asks for. (A rule of the grammar, not of a BUILD file.)
 abbrev pub rule : Row → Form
 rule Statement =
     nothing or row Expression or row Expression then assignment then row Expression
@@ -126,7 +134,7 @@ abbrev pub contents : Segs → List Part
 contents no_segs = []
 contents (seg before xs beside segs) = between_commas xs ∷ contents segs
 
--- these have the form
+-- These parts have the form. What stands in braces says nothing of it: that is any form, kind, text or part.
 pub data Has : Form → List Part → Type 0 where
   none : Has nothing []
   of_kind : {k : Kind} {text : List ℕ} → Has (any k) (node (leaf k text) ∷ [])

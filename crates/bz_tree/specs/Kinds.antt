@@ -1,11 +1,13 @@
--- What a token is to the brackets, and what kind of group a bracket is (Starlark's grammar: calls, indexes, lists, dicts, comprehensions).
+-- What a token is to the brackets, and what kind of group a bracket is (Starlark's grammar: calls, indexes, lists, dicts,
+-- comprehensions). `Shape`, `Mark` and `Preceding` are enums of `src/tree/kinds.rt`; a `Mark` has to do with no target.
 -- Begin with `mark_of` and `group_kind`.
 -- Of later stops: 8 `Placed`.
-use Rattle.std.specs.Prelude.{codes, ℕ, List, Bool, true, false, if◌then◌else◌, Option, Some}
+use Rattle.std.specs.Prelude.{codes, ℕ, List, Bool, true, false, if◌then◌else◌}
 use Rattle.std.specs.Str.{bytes_eq}
 use Rattle.bz_token.specs.declared.token.Kind.{Kind}
 use Rattle.bz_token.specs.declared.token.Kind.TheVariants.{Identifier, Keyword, Integer, String, Operator, Newline, Comment as CommentToken}
 use Rattle.bz_token.specs.Places.{Placed}
+use Rattle.bz_tree.specs.Tree.{Item, leaf, group}
 use Rattle.bz_tree.specs.declared.tree.GroupKind.{GroupKind}
 use Rattle.bz_tree.specs.declared.tree.GroupKind.TheVariants.{Call, Load, Paren, List as ListKind, Index, Dict, ListComp, DictComp}
 use Rattle.bz_tree.specs.declared.tree.kinds.Shape.{Shape}
@@ -36,32 +38,17 @@ kind_mark _ text = Plain
 abbrev pub mark_of : Placed → Mark
 mark_of t = kind_mark t.kind t.text
 
-abbrev pub same_shape : Option Shape → Shape → Bool
-same_shape (Some Round) Round = true
-same_shape (Some Square) Square = true
-same_shape (Some Curly) Curly = true
-same_shape _ _ = false
-
 -- what a bracket may stand after: an operand (then it is a call or an index), the keyword `load`, anything else
-abbrev pub kind_after : Kind → List ℕ → Preceding
-kind_after Identifier text = Operand
-kind_after Integer text = Operand
-kind_after String text = Operand
-kind_after Keyword text = if bytes_eq text (codes "load") then LoadWord else Other
-kind_after _ text = Other
+abbrev pub after_item : Item → Preceding
+after_item (leaf Identifier text) = Operand
+after_item (leaf Integer text) = Operand
+after_item (leaf String text) = Operand
+after_item (leaf Keyword text) = if bytes_eq text (codes "load") then LoadWord else Other
+after_item (leaf _ text) = Other
+after_item (group kind segs one_comma end) = Operand
 
--- this operator
-abbrev pub is_operator_at : List ℕ → Kind → List ℕ → Bool
-is_operator_at operator Operator text = bytes_eq text operator
-is_operator_at operator _ text = false
-
--- the keyword `for`
-abbrev pub is_for_at : Kind → List ℕ → Bool
-is_for_at Keyword text = bytes_eq text (codes "for")
-is_for_at _ text = false
-
--- the kind of a bracket, by its shape, what it stands after, and whether it is a comprehension (Starlark specification, Comprehensions: one
--- expression or entry, and then `for`)
+-- The kind of a bracket, by its shape, what it stands after, and whether it is a comprehension (Starlark specification,
+-- Comprehensions: one expression or entry, and then `for`). The call of a rule is made a `RuleCall` afterwards (`Statement`).
 abbrev pub group_kind : Shape → Preceding → Bool → GroupKind
 group_kind Round Operand comp = Call
 group_kind Round LoadWord comp = Load

@@ -4,8 +4,10 @@ pub mod Borrowed
 pub mod Places
 pub mod Kinds
 pub mod Owners
+pub mod Cells
 pub mod Brackets
 pub mod Statement
+pub mod Elements
 pub mod Grammar
 pub mod Blocks
 pub mod Chunk

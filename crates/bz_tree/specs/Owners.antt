@@ -1,10 +1,13 @@
--- The segments of one bracket, and whose each of its comments is. Only what stands in the bracket itself counts: an inner bracket is one node.
+-- The segments of one bracket, and whose each of its comments is (this project's own rule). Only what stands in the bracket itself
+-- counts: an inner bracket is one node.
 -- Begin with `inside`.
--- Of later stops: 8 `Placed`.
-use Rattle.std.specs.Prelude.{ℕ, List, [], ◌∷◌, ◌++◌, Bool, true, false, not, if◌then◌else◌, ◌==◌, ◌&&◌, drop}
+-- Of later stops: 8 `Placed`, `grouped`.
+use Rattle.std.specs.Prelude.{ℕ, List, [], ◌∷◌, ◌++◌, map, flat_map, Bool, true, false, not, if◌then◌else◌, ◌==◌, ◌||◌, length, drop, Option, None, Some}
+use Rattle.std.specs.List.{list_any, list_all, filter, last_or, before_last, after_last}
 use Rattle.bz_token.specs.Places.{Placed}
+use Rattle.bz_token.specs.Groups.{grouped}
 use Rattle.bz_tree.specs.Tree.{Item, Segment}
-use Rattle.bz_token.specs.Common.{first_of, is_filled}
+use Rattle.bz_token.specs.Common.{first_of}
 
 -- what stands in a bracket, in order
 pub data Own : Type 0 where
@@ -14,142 +17,79 @@ pub data Own : Type 0 where
   -- a comment: its line and its text
   comment : ℕ → List ℕ → Own
 
--- What stands directly before a comment: nothing or a comment, or a node or a comma that ends on a line. A comment ends its line, so
--- nothing before another comment is on the line of the next.
-pub data Last : Type 0 where
-  no_token : Last
-  end_of_node : ℕ → Last
-  end_of_comma : ℕ → Last
-
-abbrev pub is_on : Last → ℕ → Bool
-is_on no_token line = false
-is_on (end_of_node end) line = end == line
-is_on (end_of_comma end) line = end == line
-
 -- the segments of a bracket, whether a comma stands after its last node, its end comments
 pub record Inside : Type 0 where
   pub segs : List Segment
   pub trailing : Bool
   pub end : List (List ℕ)
 
--- What stands in a bracket, without lines: a comment says whether it is on the line on which the node or comma directly before it
--- ends. The bracket is cut at its commas into cells. A cell's nodes make a segment, if it has any; a comment of a cell stands above
--- its last node, beside it or below it.
-pub data Entry : Type 0 where
-  a_node : Item → Entry
-  a_comma : Entry
-  a_comment : Bool → List ℕ → Entry
+abbrev pub nodes_of : Own → List Item
+nodes_of (node line x) = x ∷ []
+nodes_of _ = []
 
--- what stands before the first comma
-abbrev pub first_cell : List Entry → List Entry
-first_cell [] = []
-first_cell (a_comma ∷ es) = []
-first_cell (e ∷ es) = e ∷ first_cell es
+abbrev pub texts_of : Own → List (List ℕ)
+texts_of (comment line text) = text ∷ []
+texts_of _ = []
 
--- of each comma, what stands between it and the next
-abbrev pub other_cells : List Entry → List (List Entry)
-other_cells [] = []
-other_cells (a_comma ∷ es) = first_cell es ∷ other_cells es
-other_cells (e ∷ es) = other_cells es
+abbrev pub is_node : Own → Bool
+is_node (node line x) = true
+is_node _ = false
 
--- a comment that stands first, on the line on which what stands before it ends
-abbrev pub same_line : List Entry → List (List ℕ)
-same_line (a_comment true text ∷ es) = text ∷ []
-same_line es = []
+abbrev pub is_comma : Own → Bool
+is_comma (comma t) = true
+is_comma _ = false
 
--- what stands after that comment; everything, where there is none
-abbrev pub later_lines : List Entry → List Entry
-later_lines (a_comment true text ∷ es) = es
-later_lines es = es
+-- a comment on the line on which the node or comma directly before it ends
+abbrev pub is_beside : Option Own → Own → Bool
+is_beside (Some (node end x)) (comment line text) = end == line
+is_beside (Some (comma t)) (comment line text) = t.line == line
+is_beside _ _ = false
 
-abbrev pub nodes_in : List Entry → List Item
-nodes_in [] = []
-nodes_in (a_node x ∷ es) = x ∷ nodes_in es
-nodes_in (e ∷ es) = nodes_in es
+-- such comments, where `before` stands before all, and the others
+abbrev pub beside : Option Own → List Own → List (List ℕ)
+beside before [] = []
+beside before (own ∷ owns) = (if is_beside before own then texts_of own else []) ++ beside (Some own) owns
 
-abbrev pub has_node : List Entry → Bool
-has_node es = is_filled (nodes_in es)
+abbrev pub on_own_lines : Option Own → List Own → List (List ℕ)
+on_own_lines before [] = []
+on_own_lines before (own ∷ owns) = (if is_beside before own then [] else texts_of own) ++ on_own_lines (Some own) owns
 
-abbrev pub comments_in : List Entry → List (List ℕ)
-comments_in [] = []
-comments_in (a_comment on text ∷ es) = text ∷ comments_in es
-comments_in (e ∷ es) = comments_in es
+-- A bracket is cut into cells: what stands up to a comma, the comma, and the comment beside it. The last cell has no comma, if more
+-- stands after the last one.
+abbrev pub cell_goes_on : List Own → Own → Bool
+cell_goes_on cell own = not (list_any is_comma cell) || is_beside (last_or None cell) own
 
--- a cell's comments before its last node
-abbrev pub above_last : List Entry → List (List ℕ)
-above_last [] = []
-above_last (a_comment on text ∷ es) = if has_node es then text ∷ above_last es else []
-above_last (e ∷ es) = above_last es
+abbrev pub cells : List Own → List (List Own)
+cells owns = grouped cell_goes_on owns
 
--- the comment directly after its last node, on the line on which that node ends
-abbrev pub beside_last : List Entry → List (List ℕ)
-beside_last [] = []
-beside_last (a_node x ∷ es) = if has_node es then beside_last es else same_line es
-beside_last (e ∷ es) = beside_last es
+-- a cell from its last node on
+abbrev pub from_last_node : List Own → List Own
+from_last_node cell = drop (length (before_last is_node cell)) cell
 
--- its other comments after its last node
-abbrev pub below_last : List Entry → List (List ℕ)
-below_last [] = []
-below_last (a_node x ∷ es) = if has_node es then below_last es else comments_in (later_lines es)
-below_last (a_comment on text ∷ es) = if has_node es then below_last es else text ∷ comments_in es
-below_last (a_comma ∷ es) = below_last es
+-- the end comments of the last cell without a comma: those on lines of their own after its last node
+abbrev pub end_comments : List Own → List (List ℕ)
+end_comments cell = if list_any is_comma cell then [] else on_own_lines None (from_last_node cell)
 
--- The segment of a cell, of those comments below its last node that are the segment's, and of the comment on the line of the comma
--- after it. Of the comment beside the last node and this one the first is the suffix. All others stand before the segment, in
--- their order.
-abbrev pub cell_segment : List Entry → List (List ℕ) → List (List ℕ) → Segment
-cell_segment cell below_it on_comma =
-    let shown = beside_last cell ++ on_comma in
+-- The segment of a cell. The first comment beside its last node or its comma is the suffix; its other comments that are no end
+-- comments stand before the segment.
+abbrev pub cell_segment : List Own → Segment
+cell_segment cell =
+    let last = from_last_node cell in
+    let below = if list_any is_comma cell then on_own_lines None last else [] in
     record {
-      before = above_last cell ++ (below_it ++ drop 1 shown);
-      nodes = nodes_in cell;
-      suffix = first_of shown;
+      before = flat_map texts_of (before_last is_node cell) ++ (below ++ drop 1 (beside None last));
+      nodes = flat_map nodes_of cell;
+      suffix = first_of (beside None last);
     }
 
--- a segment, if it has a node
-abbrev pub with_segment : Segment → List Segment → List Segment
-with_segment s ss = if is_filled s.nodes then s ∷ ss else ss
-
--- The segments of a cell and of the cells after it. Where a comma follows, the comments below the cell's last node are its segment's, as
--- is the comment on the line of that comma; those below the last cell's last node are no segment's.
-abbrev pub segments_from : List Entry → List (List Entry) → List Segment
-segments_from cell [] = with_segment (cell_segment cell [] []) []
-segments_from cell (next ∷ cells) =
-    with_segment (cell_segment cell (below_last cell) (same_line next))
-    (segments_from (later_lines next) cells)
-
--- the end comments: those of the last cell that stand below its last node; where it has no node, all but the one on its comma's line
-abbrev pub end_from : List Entry → List (List Entry) → List (List ℕ)
-end_from cell [] = below_last cell
-end_from cell (next ∷ cells) = end_from (later_lines next) cells
-
--- a comma stands after the last node
-abbrev pub has_trailing_comma : List (List Entry) → Bool
-has_trailing_comma [] = false
-has_trailing_comma (cell ∷ []) = not (has_node cell)
-has_trailing_comma (cell ∷ next ∷ cells) = has_trailing_comma (next ∷ cells)
-
-abbrev pub inside_by_cells : List Entry → Inside
-inside_by_cells es = record {
-  segs = segments_from (first_cell es) (other_cells es);
-  trailing = has_trailing_comma (other_cells es);
-  end = end_from (first_cell es) (other_cells es);
-}
-
--- the entries of what stands in a bracket, after what ends on this line
-abbrev pub entries_of : Last → List Own → List Entry
-entries_of last [] = []
-entries_of last (node line x ∷ os) = a_node x ∷ entries_of (end_of_node line) os
-entries_of last (comma t ∷ os) = a_comma ∷ entries_of (end_of_comma t.line) os
-entries_of last (comment line text ∷ os) = a_comment (is_on last line) text ∷ entries_of no_token os
-
 -- no segment is empty: a node stands before each comma, after the comma before
-abbrev pub no_empty : Bool → List Own → Bool
-no_empty has_node [] = true
-no_empty has_node (node line x ∷ rest) = no_empty true rest
-no_empty has_node (comma t ∷ rest) = has_node && no_empty false rest
-no_empty has_node (comment line text ∷ rest) = no_empty has_node rest
+abbrev pub no_empty : List Own → Bool
+no_empty owns = list_all (λ cell. list_any is_node cell || not (list_any is_comma cell)) (cells owns)
 
--- the inside of a bracket
+-- the inside of a bracket: each cell with a node is a segment
 abbrev pub inside : List Own → Inside
-inside owns = inside_by_cells (entries_of no_token owns)
+inside owns = record {
+  segs = map cell_segment (filter (list_any is_node) (cells owns));
+  trailing = list_any is_comma (after_last is_node owns);
+  end = flat_map end_comments (cells owns);
+}

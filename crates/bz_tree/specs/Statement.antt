@@ -1,74 +1,38 @@
 -- The statement that a list of tokens is: its tree, its class and its lines.
 -- Begin with `IsStatementOf`.
 -- Of later stops: 8 `Placed`, `is_one_of`. They are in bz_token `Places` and `Lexical`.
-use Rattle.std.specs.Prelude.{codes, ℕ, List, [], ◌∷◌, ◌++◌, Bool, true, false, if◌then◌else◌, ◌≡◌, ◌<◌, ◌^◌, ◌&&◌, ◌||◌, None, Option, Some, ◌<◌, ◌^◌}
+use Rattle.std.specs.Prelude.{codes, ℕ, List, [], ◌∷◌, ◌++◌, map, Bool, true, false, if◌then◌else◌, ◌≡◌, ◌<◌, ◌^◌, None, Option}
 use Rattle.std.specs.Str.{bytes_eq}
 use Rattle.bz_token.specs.declared.token.Kind.{Kind}
-use Rattle.bz_token.specs.declared.token.Kind.TheVariants.{Identifier, Keyword, Operator, Comment as CommentToken, Newline, Kept}
+use Rattle.bz_token.specs.declared.token.Kind.TheVariants.{Keyword, Operator, Comment as CommentToken, Newline, Kept}
 use Rattle.bz_token.specs.Places.{Placed}
-use Rattle.bz_tree.specs.declared.tree.GroupKind.{GroupKind}
-use Rattle.bz_tree.specs.declared.tree.GroupKind.TheVariants.{Call, RuleCall}
+use Rattle.bz_tree.specs.declared.tree.GroupKind.TheVariants.{RuleCall}
 use Rattle.bz_tree.specs.declared.tree.Class.{Class}
 use Rattle.bz_tree.specs.declared.tree.Class.TheVariants.{Load, Assign, Rule, Other, Comment, Block}
 use Rattle.bz_tree.specs.declared.tree.kinds.Preceding.TheVariants.{Other as OtherPreceding}
-use Rattle.bz_tree.specs.Tree.{Item, leaf, group, Segment, Statement}
-use Rattle.bz_tree.specs.Owners.{Own, Inside, inside}
-use Rattle.bz_tree.specs.Brackets.{Elems, elems_tokens, elems_own, own_items, AreWell, end_line, without_lines}
-use Rattle.bz_token.specs.Common.{first_of, is_empty, map_or}
+use Rattle.bz_tree.specs.Tree.{Item, leaf, group, Segment, Statement, is_rule}
+use Rattle.bz_tree.specs.Owners.{Own, end_comments, cell_segment}
+use Rattle.bz_tree.specs.Brackets.{AreNested, own_items, end_line, without_lines}
+use Rattle.bz_token.specs.Common.{first_of, map_or}
 use Rattle.bz_token.specs.Lexical.{is_one_of}
-use Rattle.bz_tree.specs.Kinds.{is_operator_at}
 use Rattle.std.specs.List.{list_any, last_or}
 use Rattle.std.specs.Option.{option_or}
-
--- At depth 0 a statement is one segment, and every comment but the suffix stands before it.
-abbrev pub one_segment : List Segment → List (List ℕ) → Segment
-one_segment [] end = record { before = end; nodes = []; suffix = None }
-one_segment (s ∷ ss) end = record { before = s.before ++ end; nodes = s.nodes; suffix = s.suffix }
-
-abbrev pub is_ident : Kind → Bool
-is_ident Identifier = true
-is_ident _ = false
-
-abbrev pub is_call : GroupKind → Bool
-is_call Call = true
-is_call RuleCall = true
-is_call _ = false
-
--- a rule: Ident {`.` Ident} and a call
-abbrev mutual
-  pub is_rule : List Item → Bool
-  is_rule (leaf kind text ∷ xs) = is_ident kind && is_rule_after xs
-  is_rule _ = false
-
-  -- after an identifier
-  pub is_rule_after : List Item → Bool
-  is_rule_after [] = false
-  is_rule_after (leaf kind text ∷ xs) = is_operator_at (codes ".") kind text && is_rule xs
-  is_rule_after (group kind segs one_comma end ∷ xs) = is_call kind && is_empty xs
 
 abbrev pub as_rule_call : Item → Item
 as_rule_call (leaf kind text) = leaf kind text
 as_rule_call (group kind segs one_comma end) = group RuleCall segs one_comma end
 
-abbrev pub rule_call : List Item → List Item
-rule_call [] = []
-rule_call (x ∷ []) = as_rule_call x ∷ []
-rule_call (x ∷ y ∷ ys) = x ∷ rule_call (y ∷ ys)
-
--- the call of a rule is a RuleCall
-abbrev pub with_rule_call : Segment → Segment
-with_rule_call s = record {
-  before = s.before;
-  nodes = (if is_rule s.nodes then rule_call s.nodes else s.nodes);
-  suffix = s.suffix;
-}
-
-abbrev pub segment_with : Inside → Segment
-segment_with i = with_rule_call (one_segment i.segs i.end)
-
--- nodes and comments of a statement in which these stand at depth 0
+-- Nodes and comments of a statement in which these stand at depth 0: that is one cell, and its end comments stand before it. The
+-- call of a rule is a RuleCall.
 abbrev pub segment_of : List Own → Segment
-segment_of owns = segment_with (inside (own_items true owns))
+segment_of owns =
+    let cell = own_items true owns in
+    let s = cell_segment cell in
+    record {
+      before = s.before ++ end_comments cell;
+      nodes = (if is_rule s.nodes then map as_rule_call s.nodes else s.nodes);
+      suffix = s.suffix;
+    }
 
 -- the augmented assignments (Starlark specification, "Assignments")
 abbrev pub augmented : List (List ℕ)
@@ -76,14 +40,8 @@ augmented =
     codes "+=" ∷ codes "-=" ∷ codes "*=" ∷ codes "/=" ∷ codes "//=" ∷ codes "%=" ∷ codes "&=" ∷ codes "|="
     ∷ codes "^=" ∷ codes "<<=" ∷ codes ">>=" ∷ []
 
-abbrev pub is_augmented : List ℕ → Bool
-is_augmented text = is_one_of augmented text
-
-abbrev pub is_assign_operator : List ℕ → Bool
-is_assign_operator text = bytes_eq text (codes "=") || is_augmented text
-
 abbrev pub is_assign : Item → Bool
-is_assign (leaf Operator text) = is_assign_operator text
+is_assign (leaf Operator text) = is_one_of (codes "=" ∷ augmented) text
 is_assign _ = false
 
 abbrev pub is_load_word : Item → Bool
@@ -147,12 +105,11 @@ statement_with tokens s = record {
   end = end_of tokens;
 }
 
--- The statement of the tokens: the only tree of brackets whose tokens in order are these, its comments with their owners.
+-- The statement of the tokens, by their brackets, its comments with their owners.
 pub record IsStatementOf (tokens : List Placed) (s : Statement) : Type 0 where
-  pub elems : Elems
-  pub tokens_are : without_lines tokens ≡ elems_tokens elems
-  pub well : AreWell OtherPreceding elems  -- brackets match, no segment is empty
-  pub is : s ≡ statement_with tokens (segment_of (elems_own OtherPreceding elems))
+  pub owns : List Own
+  pub nested : AreNested OtherPreceding (without_lines tokens) owns
+  pub is : s ≡ statement_with tokens (segment_of owns)
 
 -- each token ends on a line that can be counted
 abbrev pub EndsFit : List Placed → Type 0

@@ -1,15 +1,20 @@
--- What a statement is: tokens and bracket groups, split at commas, with their comments.
--- Begin with `Statement`.
-use Rattle.std.specs.Prelude.{ℕ, List, [], ◌∷◌, Bool, Option}
+-- What a statement is: nodes, which are tokens and bracket groups, the groups split at commas into segments, with their comments
+-- (this project's own form). `GroupKind` and `Class` are enums of `src/tree.rt`.
+-- Begin with `Statement` and `is_rule`.
+use Rattle.std.specs.Prelude.{codes, ℕ, List, [], ◌∷◌, Bool, true, false, ◌&&◌, Option}
+use Rattle.std.specs.Str.{bytes_eq}
 use Rattle.bz_token.specs.declared.token.Kind.{Kind}
+use Rattle.bz_token.specs.declared.token.Kind.TheVariants.{Identifier, Operator}
 use Rattle.bz_tree.specs.declared.tree.GroupKind.{GroupKind}
+use Rattle.bz_tree.specs.declared.tree.GroupKind.TheVariants.{Call, RuleCall}
 use Rattle.bz_tree.specs.declared.tree.Class.{Class}
 
+-- A node, lists of nodes, lists of segments. (`items_of` and `segs_of` make them of ordinary lists.)
 mutual
   pub data Item : Type 0 where
     -- a token: its kind, as `Identifier` (`src/token.rt` of bz_token), and its text
     leaf : Kind → List ℕ → Item
-    -- its kind, its segments, whether it is `(x,)`, its end comments
+    -- a bracket group: its kind, its segments, whether it is `(x,)`, the comments after its last segment
     group : GroupKind → Segs → Bool → List (List ℕ) → Item
 
   pub data Items : Type 0 where
@@ -18,7 +23,7 @@ mutual
 
   pub data Segs : Type 0 where
     no_segs : Segs
-    -- the comments above it, its nodes, the comment beside it, the segments after it
+    -- a segment, part by part as in `Segment`, and the segments after it
     seg : List (List ℕ) → Items → Option (List ℕ) → Segs → Segs
 
 -- a segment: the comments above it, its nodes, the comment beside it (on the last line of its nodes, or of its comma)
@@ -27,7 +32,8 @@ pub record Segment : Type 0 where
   pub nodes : List Item
   pub suffix : Option (List ℕ)
 
--- a statement, with the lines on which it begins and ends
+-- A statement: as a segment, its class, the line on which its first token begins and the line on which its last one ends.
+-- Comments count for these lines only at the end of a block, and where they are alone: then there are no nodes.
 pub record Statement : Type 0 where
   pub before : List (List ℕ)
   pub nodes : List Item
@@ -35,6 +41,30 @@ pub record Statement : Type 0 where
   pub class : Class
   pub start : ℕ
   pub end : ℕ
+
+-- whether a node is this operator
+abbrev pub is_operator_item : List ℕ → Item → Bool
+is_operator_item operator (leaf Operator text) = bytes_eq text operator
+is_operator_item operator _ = false
+
+-- the brackets of a call: of one that is a rule, or of any other
+abbrev pub is_call : GroupKind → Bool
+is_call Call = true
+is_call RuleCall = true
+is_call _ = false
+
+-- A rule: identifiers joined by dots, one call and nothing more (the word is that of buildozer's README, what is one is this
+-- project's own rule). In a statement that was read this call is a `RuleCall` (`with_rule_call`, stop 7).
+abbrev mutual
+  pub is_rule : List Item → Bool
+  is_rule (leaf Identifier text ∷ xs) = is_rule_after xs
+  is_rule _ = false
+
+  -- after an identifier
+  pub is_rule_after : List Item → Bool
+  is_rule_after (leaf Operator text ∷ xs) = bytes_eq text (codes ".") && is_rule xs
+  is_rule_after (group kind segs one_comma end ∷ []) = is_call kind
+  is_rule_after _ = false
 
 -- the same as lists, there and back
 abbrev pub items_of : List Item → Items

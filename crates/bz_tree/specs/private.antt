@@ -1,5 +1,6 @@
 pub mod BlockSteps
 pub mod BorrowedSteps
+pub mod KindSteps
 pub mod Machine
 pub mod PartSteps
 pub mod PlacedSteps

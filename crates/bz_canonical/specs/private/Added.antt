@@ -10,7 +10,7 @@ use Rattle.bz_label.specs.Values.{quoted, value_of}
 use Rattle.bz_layout.specs.Pieces.{indent}
 use Rattle.bz_attribute.specs.Lists.{same}
 use Rattle.bz_canonical.specs.Canonical.{AreReadAlone}
-use Rattle.bz_canonical.specs.private.Rewritten.{ArePassed, Element, element_list}
+use Rattle.bz_canonical.specs.private.Elements.{ArePassed, Element, element_list}
 
 -- the value of a string token is the same label as the word
 abbrev pub is_word : Package → List ℕ → List ℕ → Bool

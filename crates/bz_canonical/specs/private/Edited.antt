@@ -15,9 +15,11 @@ use Rattle.bz_canonical.specs.declared.edited.NewString.{NewString}
 use Rattle.bz_canonical.specs.declared.edited.Passed.{Passed}
 use Rattle.bz_canonical.specs.declared.edited.PassedList.{PassedList}
 use Rattle.bz_canonical.specs.declared.lists.ReadElement.{ReadElement}
-use Rattle.bz_canonical.specs.declared.put_arguments.Pending.{Pending}
+use Rattle.bz_canonical.specs.declared.arguments.Pending.{Pending}
 use Rattle.bz_canonical.specs.private.Added.{IsListAlone, is_word, list_arg}
-use Rattle.bz_canonical.specs.private.Rewritten.{ArePassed, Element, IsElementRead, IsHeadRead, IsLast, IsPending, closing, element_lines}
+use Rattle.bz_canonical.specs.private.Elements.{ArePassed, Element, IsElementRead, IsLast, closing, element_lines}
+use Rattle.bz_canonical.specs.private.Arguments.{IsHeadRead}
+use Rattle.bz_canonical.specs.private.Pendings.{IsPending}
 
 -- the string is exactly the new value
 abbrev pub is_new : Option NewString → List ℕ → Bool

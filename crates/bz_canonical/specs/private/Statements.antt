@@ -5,12 +5,14 @@ use Rattle.bz_tree.specs.declared.tree.kinds.Preceding.TheVariants.{Other}
 use Rattle.bz_tree.specs.declared.tree.Class.{Class}
 use Rattle.bz_tree.specs.declared.tree.GroupKind.TheVariants.{RuleCall, Load}
 use Rattle.bz_tree.specs.private.Productions.{IsStatement}
-use Rattle.bz_tree.specs.Statement.{class_of, is_rule, rule_call}
-use Rattle.bz_tree.specs.Tree.{Item, Statement, items_of, segments}
+use Rattle.bz_tree.specs.Statement.{class_of}
+use Rattle.bz_tree.specs.Elements.{rule_call}
+use Rattle.bz_tree.specs.Tree.{Item, Statement, items_of, segments, is_rule}
 use Rattle.bz_layout.specs.declared.broken.Style.TheVariants.{Broken}
 use Rattle.bz_layout.specs.declared.spacing.Edge.TheVariants.{Start}
 use Rattle.bz_layout.specs.declared.spacing.Gap.TheVariants.{Closed}
-use Rattle.bz_layout.specs.Layout.{is_comment, items_pieces, layout_text}
+use Rattle.bz_layout.specs.Layout.{is_comment, layout_text}
+use Rattle.bz_layout.specs.Walked.{items_pieces}
 use Rattle.bz_layout.specs.Pieces.{bytes_of}
 use Rattle.bz_layout_laws.specs.Legible.{are_some, items_depth}
 use Rattle.bz_layout_laws.specs.Parsed.{HaveKinds, plain_calls}
@@ -18,7 +20,7 @@ use Rattle.bz_layout_laws.specs.Spelled.{spelled, spelled_statement}
 use Rattle.bz_layout_laws.specs.TextsOfKinds.{HaveTexts}
 use Rattle.bz_layout_laws.specs.WellFormed.{IsWellFormed}
 use Rattle.bz_attribute.specs.Rules.{first_named, name_in, rule_of}
-use Rattle.bz_canonical.specs.Canonical.{HasArgumentName, HasName, IsCanonical, IsNameless, between, rule_args, rule_name}
+use Rattle.bz_canonical.specs.Canonical.{HasArgumentName, HasName, IsCanonical, IsNameless, rule_args, rule_name}
 use Rattle.bz_canonical.specs.declared.chunk.CanonicalChunk.{CanonicalChunk}
 use Rattle.bz_canonical.specs.private.Fronts.{IsTokenFront}
 use Rattle.bz_canonical.specs.private.Segments.{AreFlatFront, IsGroupFront}
@@ -87,5 +89,5 @@ pub record IsStatementFront (depth : ℕ) (class : Class) (name kind : Option (L
   pub absent : (attr : List ℕ) → (HasArgumentName attr (layout_text s) → ⊥) → first_named attr (rule_args (rule_of s.nodes)) ≡ None
 
 -- a chunk that is found at the front of a text
-abbrev pub IsChunkOf : ℕ → List ℕ → List ℕ → CanonicalChunk → Type 0
-IsChunkOf depth attr text found = IsCanonical depth attr found.class (option_map (λ name. name.now) found.name) (option_map (λ kind. kind.now) found.kind) (option_map between found.place) found.chunk.now found.written.now text
+abbrev pub IsChunkOf : ℕ → List ℕ → CanonicalChunk → Type 0
+IsChunkOf depth text found = IsCanonical depth found.class (option_map (λ name. name.now) found.name) (option_map (λ kind. kind.now) found.kind) found.chunk.now found.written.now text

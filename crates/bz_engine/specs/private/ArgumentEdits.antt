@@ -33,23 +33,13 @@ abbrev pub EditsLines : ℕ → Command → Package → List ℕ → EditedArgum
 EditsLines depth command home lines Stays = (args : List Segment) → is_empty lines ≡ is_empty args → AreReadAlone depth lines args → args_done command home args ≡ told_line false None
 EditsLines depth command home lines (Lines new) = (args : List Segment) → is_empty lines ≡ is_empty args → AreReadAlone depth lines args → ChangesArgs command home args new.now
 
--- the same, of each argument of which this is the small rule
-abbrev pub EditsSmallRule : ℕ → Command → Package → List ℕ → EditedArgument → Type 0
-EditsSmallRule depth command home text edited = (lines : List ℕ) → text ≡ small_text lines → EditsLines depth command home lines edited
-
--- the same of a list; what is written stands after what was in the buffer
+-- what the command makes of a list that is read of these lines alone; what is written stands after what was in the buffer
 abbrev pub EditsList : Command → AloneLines → List ℕ → List ℕ → EditedList → Type 0
 EditsList command alone before after Unchanged = (args : List Segment) → AreReadAlone alone.depth alone.lines args → args_done command alone.home args ≡ told_line false None
 EditsList command alone before after Written = (written : List ℕ) × (after ≡ before ++ written) × ((args : List Segment) → AreReadAlone alone.depth alone.lines args → ChangesArgs command alone.home args written)
 
--- the same, with what stands before the list and after it
+-- what the command makes of the argument at a place; what is written stands between what is before and after it there
 abbrev pub EditsPlace : ℕ → Command → Package → Between → List ℕ → List ℕ → EditedList → Type 0
 EditsPlace depth command home place old new Unchanged = (args : List Segment) → AreReadAlone depth place.lines args → args_done command home args ≡ told_line false None
 EditsPlace depth command home place old new Written =
     (written : List ℕ) × (new ≡ old ++ (place.before ++ (written ++ place.after))) × ((args : List Segment) → AreReadAlone depth place.lines args → ChangesArgs command home args written)
-
--- what stands in the small rule, where this was told
-abbrev pub AreLinesAfter : Done → Option Statement → EditedArgument → Type 0
-AreLinesAfter done slot Stays = done ≡ told_line false None
-AreLinesAfter done slot (Lines new) = (done ≡ told_line true None) × (new.now ≡ [] → ⊥)
-    × ((s : Statement) (args : List Segment) → slot ≡ Some s → layout_text s ≡ small_text (argument_lines args) → new.now ≡ argument_lines args)

@@ -1,5 +1,5 @@
 -- What the script on one chunk answers, for private clauses.
-use Rattle.std.specs.Prelude.{◌≡◌, ℕ, ◌+◌, ◌≤◌, Bool, true, false, IsTrue, IsFalse, if◌then◌else◌, List, [], ◌∷◌, ◌++◌, length, Option, Some, Ok, Err, option_to_list, flat_map, take}
+use Rattle.std.specs.Prelude.{◌≡◌, ℕ, ◌+◌, ◌≤◌, true, false, IfNone, IfSome, if◌then◌else◌, List, [], ◌∷◌, ◌++◌, length, Option, Some, Ok, Err, option_to_list, take}
 use Rattle.bz_tree.specs.Tree.{Statement}
 use Rattle.bz_engine.specs.declared.edit.ScriptRun.{ScriptRun}
 use Rattle.bz_engine.specs.declared.edit.Edited.{Edited}
@@ -11,9 +11,8 @@ use Rattle.bz_engine.specs.File.{IsAnswerOf}
 use Rattle.bz_passes.specs.Passes.{Slot}
 use Rattle.bz_passes.specs.Exchange.{Fits, IsLeftBy, slot_after}
 use Rattle.bz_engine.specs.Language.{meaning, changes, fails_on}
-use Rattle.bz_engine.specs.Outcome.{Run, is_query, text_after, said, slots_of, some_failure}
+use Rattle.bz_engine.specs.Outcome.{Run, is_query, text_after, failures, some_failure}
 use Rattle.bz_engine.specs.Progress.{Progress, IsKeptOf, last_class, text_following}
-use Rattle.bz_passes.specs.Entries.{failure_text}
 
 abbrev pub run_of : ScriptRun → Run
 run_of script = record { home = script.home.now; passes = script.passes.now; keep_going = script.keep_going; max_depth = script.max_depth }
@@ -39,7 +38,7 @@ pub record IsFailed (run : Run) (chunk : List ℕ) (message : Option (List ℕ))
   pub statement : Statement
   pub read : IsAnswerOf run.max_depth old.line chunk (Ok (Some statement))
   pub fails : old.failed ≡ false → some_failure run.home run.passes (statement ∷ []) ≡ true
-  pub message_is : old.failed ≡ false → option_to_list message ≡ take 1 (flat_map failure_text (said (meaning run.home) run.passes (slots_of (statement ∷ []))))
+  pub message_is : old.failed ≡ false → option_to_list message ≡ take 1 (failures run.home run.passes (statement ∷ []))
   pub changed : new.changed ≡ old.changed
   pub nothing : text_following ≡ text_before
 
@@ -57,12 +56,12 @@ EditsChunk run chunk old new before after edited =
 abbrev pub DoesNothing : Progress → Progress → List ℕ → List ℕ → Type 0
 DoesNothing old new before after = (new ≡ old) × (after ≡ before)
 
--- The script on a chunk that may be known as a whole: it is done, or nothing is.
-pub record EditsWhole (run : Run) (chunk : List ℕ) (old new : Progress) (before after : List ℕ) (done : Bool) : Type 0 where
+-- The script on a chunk that may be known as a whole: this is what it made of it, or nothing is done.
+pub record EditsWhole (run : Run) (chunk : List ℕ) (old new : Progress) (before after : List ℕ) (answer : Option Edited) : Type 0 where
   pub fits : Fits new.kept run.passes
   pub lines : new.line ≤ old.line + length chunk
-  pub edited : IsTrue done → EditsChunk run chunk old new before after Done
-  pub nothing : IsFalse done → DoesNothing old new before after
+  pub edited : IfSome answer (EditsChunk run chunk old new before after)
+  pub nothing : IfNone answer (DoesNothing old new before after)
 
 -- The script on one statement: it is done,
 pub record IsLaidOut (run : Run) (s : Statement) (old new : Progress) (before after : List ℕ) : Type 0 where
@@ -79,7 +78,7 @@ pub record IsEnded (run : Run) (s : Statement) (message : Option (List ℕ)) (ol
   pub fails : old.failed ≡ false → some_failure run.home run.passes (s ∷ []) ≡ true
   pub message_is : old.failed ≡ false → (slots : List (Slot Statement))
       → IsLeftBy (meaning run.home) (changes run.home) (fails_on run.home) run.passes slots old.kept old.changed old.failed
-      → option_to_list message ≡ take 1 (flat_map failure_text (said (meaning run.home) run.passes (slots_of (s ∷ []))))
+      → option_to_list message ≡ take 1 (failures run.home run.passes (s ∷ []))
   pub changed : new.changed ≡ old.changed
   pub line : new.line ≡ old.line
   pub nothing : after ≡ before

@@ -27,6 +27,6 @@ pub record Finds {S T : Type 0} (gave : S → List (List ℕ) → S → Type 0) 
   pub steady : result ≢ Err ReadFailed → failures source_after ≡ failures source
   pub runs : (result ≢ Err Stopped) × (result ≢ Err WriteFailed)
 
--- the same of the session that looks for it
+-- what a session found of the next chunk, and read for it
 abbrev pub FindsNext : {S T : Type 0} → (S → List (List ℕ) → S → Type 0) → (S → ℕ) → S → S → SessionValue → SessionValue → Result T RunFault → Type 0
 FindsNext gave failures source after old new result = Finds gave failures old.options old.progress.line source after old.ahead new.ahead result

@@ -1,7 +1,8 @@
 -- What is known of the statement of a chunk that stands as it would be written, and what one command tells of it, for
 -- private clauses.
-use Rattle.std.specs.Prelude.{◌≡◌, ℕ, ◌<◌, length, get_or, List, [], ◌∷◌, ◌++◌, Bool, false, true, Option, None, Some, option_map, IfSome, map, option_to_list}
+use Rattle.std.specs.Prelude.{◌≡◌, ℕ, ◌+◌, ◌<◌, length, get_or, take, List, [], ◌∷◌, ◌++◌, Bool, false, true, Option, None, Some, option_map, IfSome, IsTrue, map, option_to_list}
 use Rattle.bz_passes.specs.declared.entry.Entry.TheVariants.{Line}
+use Rattle.bz_tree.specs.Chunk.{IsStatementIn}
 use Rattle.bz_tree.specs.Statement.{class_of}
 use Rattle.bz_tree.specs.Tree.{Statement}
 use Rattle.bz_layout.specs.Layout.{layout_text}
@@ -14,6 +15,9 @@ use Rattle.bz_label.specs.Labels.{Package, Target}
 use Rattle.bz_attribute.specs.Rules.{first_named, rule_of}
 use Rattle.bz_attribute.specs.Marks.{marks}
 use Rattle.bz_canonical.specs.Canonical.{HasName, HasPlace, IsNameless, between, rule_args, rule_name}
+use Rattle.bz_canonical.specs.Spans.{AreSpansOf, IsSpannedIn, NamedRule}
+use Rattle.bz_canonical.specs.declared.spans.ArgumentSpan.{ArgumentSpan}
+use Rattle.bz_token.specs.Places.{line_at}
 use Rattle.bz_rule.specs.Commands.{Command, after, done_of}
 use Rattle.bz_passes.specs.Passes.{Pass}
 use Rattle.bz_passes.specs.Exchange.{Kept}
@@ -23,7 +27,9 @@ use Rattle.bz_engine.specs.declared.answer.Unchanged.{Unchanged}
 use Rattle.bz_engine.specs.declared.canonical.Found.{Found}
 use Rattle.bz_engine.specs.declared.failure.Message.{Message}
 use Rattle.bz_engine.specs.declared.rule_passes.OnePass.{OnePass}
+use Rattle.bz_engine.specs.declared.sealed.HeadedRule.{HeadedRule}
 use Rattle.bz_engine.specs.Outcome.{Script}
+use Rattle.bz_engine.specs.private.Sealed.{asked_names}
 
 -- a pass of one command
 abbrev pub one_pass : OnePass → Pass Target Command
@@ -41,6 +47,19 @@ one_told line = one_log_of (map Line (option_to_list line))
 abbrev pub HasLogAt : List (Kept Entry) → ℕ → Type 0
 HasLogAt kept at = (at < length kept) × ((d : Kept Entry) → length (get_or kept at d).logs ≡ 1)
 
+-- The rule of the chunk, which begins on this line: its first token follows the comments above it, and its last ends the last
+-- line. Its head is on these lines, of the name that is known, and of the kind that the arguments follow.
+pub record IsRuleFound (line : ℕ) (found : Found) (noted : HeadedRule) : Type 0 where
+  pub chunk_is : noted.rule.chunk.now ≡ found.chunk.chunk.now
+  pub written_is : noted.rule.rule.written.now ≡ found.chunk.written.now
+  pub spans_are : noted.rule.rule.spans.now ≡ found.spans.now
+  pub start_is : (other : ArgumentSpan) → noted.rule.start ≡ line_at line (take (get_or noted.rule.rule.spans.now 0 other).from noted.rule.chunk.now)
+  pub end_is : noted.rule.end + 1 ≡ line_at line noted.rule.chunk.now
+  pub kind_is : (depth : ℕ) (names : List (List ℕ)) (r : NamedRule) (stands : List (List ℕ)) → IsSpannedIn depth names r stands noted.rule.chunk.now noted.rule.rule.written.now noted.rule.rule.spans.now → noted.head.kind.now ≡ r.kind
+  pub name_is : noted.head.name ≡ found.chunk.name
+  pub begins_on : noted.head.start ≡ noted.rule.start
+  pub ends_on : noted.head.end ≡ noted.rule.end
+
 -- the statement of the chunk
 pub record IsFound (depth : ℕ) (found : Found) (s : Statement) : Type 0 where
   pub class : s.class ≡ class_of s.nodes
@@ -48,7 +67,17 @@ pub record IsFound (depth : ℕ) (found : Found) (s : Statement) : Type 0 where
   pub named : HasName (option_map (λ name. name.now) found.chunk.name) s
   pub nameless : IfSome (option_map (λ kind. kind.now) found.chunk.kind) (λ k. IsNameless k s.nodes)
   pub written : layout_text s ≡ found.chunk.written.now
-  pub has : IfSome (option_map between found.chunk.place) (HasPlace depth found.attr.now s)
+  pub has : IfSome (option_map between found.place) (HasPlace depth found.attr.now s)
+
+-- the same, where the chunk begins on this line
+pub record IsFoundOn (depth line : ℕ) (found : Found) (s : Statement) : Type 0 where
+  pub is : IsFound depth found s
+  pub read : IsStatementIn line depth found.chunk.chunk.now s
+
+-- The chunk is read as its statement, on whatever line it begins. Where the arguments of that stand, if it was noted.
+pub record HasItsSpans (depth : ℕ) (passes : Script) (found : Found) : Type 0 where
+  pub read : (first : ℕ) → (s : Statement) × IsFoundOn depth first found s
+  pub spans : IsTrue found.chunk.noted → AreSpansOf depth (asked_names passes) found.chunk.chunk.now found.chunk.written.now found.spans.now
 
 -- a rule has the name that another has
 abbrev pub KeepsName : Statement → Statement → Type 0

@@ -1,5 +1,5 @@
 -- What the script on the next chunk answers, for private clauses.
-use Rattle.std.specs.Prelude.{◌≡◌, ℕ, ◌+◌, ◌*◌, ◌≤◌, Bool, IsTrue, IsFalse, List, [], length, take, Option, None, Some}
+use Rattle.std.specs.Prelude.{◌≡◌, ℕ, ◌+◌, ◌*◌, ◌≤◌, Bool, IfNone, IfSome, IsTrue, IsFalse, List, [], length, take, Option, None, Some}
 use Rattle.std.specs.Str.{IsUtf8}
 use Rattle.bz_token.specs.Places.{line_at}
 use Rattle.bz_tree.specs.Tree.{Statement}
@@ -9,16 +9,10 @@ use Rattle.bz_engine.specs.Outcome.{Run}
 use Rattle.bz_engine.specs.Progress.{Progress}
 use Rattle.bz_engine.specs.SessionValue.{SessionValue, run_in}
 use Rattle.bz_engine.specs.declared.canonical.Found.{Found}
-use Rattle.bz_engine.specs.declared.edit.Edited.TheVariants.{Done}
-use Rattle.bz_engine.specs.private.Edits.{DoesNothing, EditsChunk, IsLaidOut}
-use Rattle.bz_engine.specs.private.Found.{IsFound}
+use Rattle.bz_engine.specs.declared.edit.Scripted.{Scripted}
+use Rattle.bz_engine.specs.private.Edits.{DoesNothing, EditsChunk, IsLaidOut, IsScripted, edited_of}
+use Rattle.bz_engine.specs.private.Found.{IsFound, IsFoundOn}
 use Rattle.bz_engine.specs.declared.next_chunk.NextChunk.{NextChunk}
-use Rattle.bz_engine.specs.declared.next_chunk.First.{First}
-use Rattle.bz_engine.specs.declared.next_chunk.First.TheVariants.{Edited, Short, Other}
-
--- what is answered of a chunk that is done
-abbrev pub done_chunk : ℕ → NextChunk
-done_chunk len = record { len = len; edited = Done }
 
 -- The chunk stands ahead, it is not too long, and this is what the script made of it.
 pub record IsFirstEdited (run : Run) (max_statement : ℕ) (ahead : Ahead) (old new : Progress) (before after : List ℕ) (next : NextChunk) : Type 0 where
@@ -33,24 +27,25 @@ pub record EditsFound (run : Run) (found : Found) (old new : Progress) (before a
   pub edited : IsTrue done → (s : Statement) → IsFound run.max_depth found s → IsLaidOut run s old new before after
   pub nothing : IsFalse done → DoesNothing old new before after
 
--- This is what the script made of the statement of a chunk that was found.
-pub record IsKnownEdited (run : Run) (found : Found) (old new : Progress) (before after : List ℕ) (len : ℕ) : Type 0 where
+-- The script on the statement of a chunk that was found, of which some arguments may be sealed: this is what it made of it, or nothing is done.
+pub record ScriptsFound (run : Run) (found : Found) (old new : Progress) (before after : List ℕ) (answer : Option Scripted) : Type 0 where
+  pub fits : Fits new.kept run.passes
+  pub line : new.line ≡ old.line
+  pub scripted : IfSome answer (λ scripted. (s : Statement) → IsFoundOn run.max_depth old.line found s → IsScripted run s old new before after scripted)
+  pub nothing : IfNone answer (DoesNothing old new before after)
+
+-- This is what the script made of a chunk that was found.
+pub record IsKnownEdited (run : Run) (found : Found) (old new : Progress) (before after : List ℕ) (next : NextChunk) : Type 0 where
   pub utf8 : IsUtf8 found.chunk.chunk.now
   pub mid : Progress
-  pub laid : (s : Statement) → IsFound run.max_depth found s → IsLaidOut run s old mid before after
+  pub scripted : Scripted
+  pub same_line : mid.line ≡ old.line
+  pub is : (s : Statement) → IsFoundOn run.max_depth old.line found s → IsScripted run s old mid before after scripted
   pub passed : new ≡ record mid { line = line_at mid.line found.chunk.chunk.now }
-  pub len_is : len ≡ length found.chunk.chunk.now
-
--- The script was run on the first chunk ahead, or nothing was done.
-abbrev pub IsFirst : Run → ℕ → Ahead → Progress → Progress → List ℕ → List ℕ → First → Type 0
-IsFirst run max_statement ahead old new before after (Edited next) = IsFirstEdited run max_statement ahead old new before after next
-IsFirst run max_statement ahead old new before after Short = DoesNothing old new before after
-IsFirst run max_statement ahead old new before after Other = DoesNothing old new before after
+  pub len_is : next.len ≡ length found.chunk.chunk.now
+  pub edited_is : next.edited ≡ edited_of scripted
 
 -- the same of a session
-abbrev pub IsFirstNext : SessionValue → SessionValue → List ℕ → List ℕ → First → Type 0
-IsFirstNext old new before after first = IsFirst (run_in old) old.options.max_statement new.ahead old.progress new.progress before after first
-
 abbrev pub IsNextEdited : SessionValue → SessionValue → List ℕ → List ℕ → NextChunk → Type 0
 IsNextEdited old new before after next = IsFirstEdited (run_in old) old.options.max_statement new.ahead old.progress new.progress before after next
 

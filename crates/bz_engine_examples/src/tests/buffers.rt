@@ -1,5 +1,5 @@
-//! Buffers before devices: how much is asked of a device at once, what a sink is asked once it failed, and what is known to
-//! be text.
+//! Buffers before devices: how much is asked of a device at once, what a sink is asked once it failed, and what is
+//! known to be text.
 
 ghost use Rattle.std.specs.Prelude.{◌<◌, length};
 

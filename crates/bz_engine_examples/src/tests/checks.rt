@@ -1,5 +1,5 @@
-//! How an answer is checked, and what a run over two devices answers. A test calls `check`, since an assertion in a test of
-//! many costs its proof much.
+//! How an answer is checked, and what a run over two devices answers. A test calls `check`, since an assertion in a
+//! test of many costs its proof much.
 
 use crate::script::{program, read_script};
 use bz_engine::{RunFault, Sink, Source, run};

@@ -16,8 +16,8 @@ enum Form {
     Line,
 }
 
-/// A script, the rule of each chunk with the number of its elements, and the most bytes that may be held. What the layout
-/// would write is copied. The lists of a rule that is read are in the arena, whose room stays.
+/// A script, the rule of each chunk with the number of its elements, and the most bytes that may be held. What the
+/// layout would write is copied. The lists of a rule that is read are in the arena, whose room stays.
 const ROWS: [(&str, Form, u64, usize); 4] = [
     ("set n 7 ! -:*", Form::Lines, 2, 16_384),
     ("add srcs b.cc ! -:a", Form::Lines, 16, 16_384),

@@ -30,7 +30,8 @@ if␉a:␊␉b 9 9 More 3
 ∞x 10000 9 StatementTooLong 2
 ∞\\ 99999 3 InputTooLong 3";
 
-/// The same, of reads of a byte each.
+/// An input, the most bytes of a chunk and the most reads; what the first step answers, and after how many reads of a
+/// byte each.
 const BY_BYTES: &str = "x=1234␊ 7 99 More 7
 x=12345␊ 7 99 StatementTooLong 8
 x=12345␊ 7 7 InputTooLong 7

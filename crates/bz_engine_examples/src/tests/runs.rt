@@ -12,8 +12,8 @@ use std::alloc::Global;
 use std::process::Abort;
 use std::test::Fail;
 
-/// A script and an input; the text that is written; and what is told. A run goes on after failures, unless `-k=false` is
-/// the first word.
+/// A script and an input; the text that is written; and what is told. A run goes on after failures, unless `-k=false`
+/// is the first word.
 const RUNS: &str = r#"
 ---
 add deps x ! //p:a
@@ -479,7 +479,7 @@ message: //p:%n.g: no attribute 'name' to print
 status 3
 "#;
 
-/// The same of rules without a name, which a second run may give one.
+/// Scripts, inputs and outcomes, as above, of rules without a name, which a second run may give one.
 const NAMELESS: &str = r#"
 ---
 add deps //b:c ! -:a
@@ -553,7 +553,7 @@ fn step_to_end(
     Err(Fail::from("no end"))
 }
 
-/// The same run by the steps of a session.
+/// The run of a script over an input, by the steps of a session.
 fn step_all(alloc: Global, script: &str, input: &[u8], most: usize) -> Result<Outcome, Fail> {
     let mut feed = Feed::new(Input::Bytes(input), Piece::AtMost(most), None);
     let mut drip = Drip::new(alloc, most, None);

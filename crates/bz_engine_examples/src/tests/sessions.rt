@@ -54,7 +54,8 @@ impl<'a> Bench<'a> {
         check_utf8(self.drip.taken.as_slice())
     }
 
-    /// A step answers this; after it the source has given so many bytes, in one read each, and the sink holds this text.
+    /// A step answers this; after it the source has given so many bytes, in one read each, and the sink holds this
+    /// text.
     fn check_step(&mut self, rt: &impl Abort, answer: Step, reads: u64, text: &str) {
         let found = (self.step(), self.feed.reads, self.text());
         check(rt, text, &found, &(Ok(answer), reads, Ok(text)));
@@ -82,8 +83,8 @@ impl<'a> Bench<'a> {
         (self.step(), self.feed.reads, self.drip.writes)
     }
 
-    /// The fault that the next step meets. From then on the session answers `Stopped`, reads and writes nothing, and has no
-    /// report. The devices, as it left them.
+    /// The fault that the next step meets. From then on the session answers `Stopped`, reads and writes nothing, and
+    /// has no report. The devices, as it left them.
     fn check_stop(mut self, rt: &impl Abort, fault: RunFault, text: &str) -> (Feed<'a>, Drip) {
         let (met, reads, writes) = self.counted_step();
         check(rt, text, &met, &Err(fault));
@@ -100,8 +101,8 @@ impl<'a> Bench<'a> {
     }
 }
 
-/// A session that may make so many reads, of a byte each, and has taken two rules, of which it deleted the first. Each step
-/// read its chunk and nothing after it.
+/// A session that may make so many reads, of a byte each, and has taken two rules, of which it deleted the first. Each
+/// step read its chunk and nothing after it.
 fn past_two_rules(rt: &impl Abort, alloc: Global, max_reads: u32) -> Result<Bench<'static>, Fail> {
     let mut bench = Bench::new(alloc, DELETE, limited(99, 100, max_reads))?;
     bench.feed = Feed::new(Input::Bytes(TWO_RULES), Piece::AtMost(1), None);

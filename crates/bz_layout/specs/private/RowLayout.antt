@@ -15,10 +15,11 @@ use Rattle.bz_layout.specs.declared.marks.Marks.{Marks}
 use Rattle.bz_layout.specs.declared.walk.OpenBracket.{OpenBracket}
 use Rattle.bz_layout.specs.declared.walk.RowWriter.{RowWriter}
 use Rattle.bz_layout.specs.Respell.{respell}
-use Rattle.bz_layout.specs.Spacing.{closes_up, hugs, edge_after, gap_for}
+use Rattle.bz_layout.specs.Spacing.{hugs}
+use Rattle.bz_layout.specs.Walked.{closes_up, edge_after, gap_for, opening as opening_text, closing as closing_text}
 use Rattle.bz_layout.specs.Broken.{breaks_by_count}
 use Rattle.bz_layout.specs.Pieces.{gap_bytes, bytes_of, comment_lines}
-use Rattle.bz_layout.specs.Layout.{has_commas, opening as opening_text, closing as closing_text}
+use Rattle.bz_layout.specs.Layout.{has_commas}
 
 -- bytes that stay, whether memory was refused or not
 pub record IsBegunBy (old new : List ℕ) : Type 0 where

@@ -4,7 +4,7 @@ ghost use Rattle.std.specs.Prelude.{◌≡◌, ◌≤◌, ◌++◌, ◌&&◌, �
 ghost use Rattle.std.specs.List.{list_all, list_any};
 ghost use Rattle.bz_token.specs.declared.token.Kind.{Kind};
 ghost use Rattle.bz_token.specs.declared.token.Kind.TheVariants.{Operator};
-ghost use Rattle.bz_token.specs.Pieces.{is_quote};
+ghost use Rattle.bz_token.specs.Strings.{is_quote};
 ghost use Rattle.bz_token.specs.Lexical.{is_word_byte, is_text};
 ghost use Rattle.bz_token.specs.Places.{Placed};
 ghost use Rattle.bz_token.specs.Ends.{stops, stops_at, ends, is_comment_kind};
@@ -46,8 +46,8 @@ pub fn pieces_may_be_joined()
 {}
 
 /// Which tokens may stand close: an opening bracket ends all texts but comments, and so does every byte that is no
-/// letter, digit, underscore or quote and stands second in no operator. Only operators begin with a byte that may lengthen
-/// an operator. Brackets, commas, semicolons, points, colons and tildes are lengthened by nothing.
+/// letter, digit, underscore or quote and stands second in no operator. Only operators begin with a byte that may
+/// lengthen an operator. Brackets, commas, semicolons, points, colons and tildes are lengthened by nothing.
 pub fn tokens_may_stand_close()
     ensures opening { (kind : Kind) (text : List ℕ) (b : ℕ) → is_text kind text ≡ true → is_comment_kind kind ≡ false
         → list_any (λ c. b == c) (codes "([{") ≡ true → stops kind text b ≡ true }

@@ -4,7 +4,8 @@ use Rattle.std.proofs.lemmas.List.{append_cancel_left}
 use Rattle.bz_tree.specs.Tree.{Segment}
 use Rattle.bz_label.specs.Labels.{Package}
 use Rattle.bz_attribute.specs.Rules.{is_named, first_named, value}
-use Rattle.bz_attribute.specs.Lists.{edit_first_part, is_attribute, parts, same, with_value}
+use Rattle.bz_attribute.specs.Lists.{is_attribute, parts, same, with_value}
+use Rattle.bz_attribute.specs.ListWalk.{edit_first_part}
 use Rattle.bz_attribute.specs.Effects.{argument, done, edit_first, has, list_item, not_a_list}
 use Rattle.bz_rule.specs.Add.{add, adds, new_elements, with_added}
 use Rattle.bz_attribute.specs.declared.done.Note.TheVariants.{NotAList}

@@ -6,10 +6,12 @@ use Rattle.std.proofs.lemmas.List.{length_push}
 use Rattle.bz_tree.specs.Tree.{Item, leaf, group, Segment, Statement}
 use Rattle.bz_label.specs.Labels.{Package}
 use Rattle.bz_attribute.specs.Rules.{rule_of, is_named, first_named, value, elements}
-use Rattle.bz_attribute.specs.Lists.{edit_list, equals, is_joint, is_part, is_plus, parts, parts_from}
+use Rattle.bz_attribute.specs.Lists.{equals, is_joint, is_plus, parts}
+use Rattle.bz_attribute.specs.ListWalk.{edit_list, is_part, parts_from, edit_element, edit_element_from}
+use Rattle.bz_attribute.proofs.ListPieces.{edit_element_is, parts_are}
 use Rattle.bz_attribute.specs.declared.done.Note.{Note}
 use Rattle.bz_attribute.specs.declared.done.Note.TheVariants.{NoAttribute, NoValue}
-use Rattle.bz_attribute.specs.Effects.{done, edit_first, has, holds_rule, is_absent, not_a_list, edit_element, edit_element_from, with_comment}
+use Rattle.bz_attribute.specs.Effects.{done, edit_first, has, holds_rule, is_absent, not_a_list, with_comment}
 use Rattle.bz_rule.specs.Comment.{comment_element, comment_line, comment_note, comment_rule, comment_value, is_missing}
 use Rattle.bz_attribute.proofs.Views.{segments_of}
 use Rattle.bz_label.specs.declared.arguments.Commented.{Commented}
@@ -18,7 +20,7 @@ use Rattle.bz_rule.specs.declared.command.Action.TheVariants.{Comment}
 use Rattle.bz_rule.proofs.Arguments.{attribute_named, first_same, value_put}
 use Rattle.bz_rule.proofs.Local.{comment_local, comment_value_local, looks_at_one, note_by_first, note_of}
 use Rattle.bz_rule.specs.OwnComments.{Comments}
-use Rattle.bz_rule.proofs.CommentEdits.{ChangesComments, EditsComments, EditsRuleComments, above_rule, always, comments_edits, own_after, rule_comments, with_above, with_comments}
+use Rattle.bz_rule.proofs.CommentEdits.{ChangesComments, EditsComments, EditsRuleComments, above_rule, always, comments_edits, own_after, rule_comments, with_above}
 use Rattle.bz_rule.proofs.FirstEdits.{EditsFirst, edits_first}
 use Rattle.bz_rule.proofs.Lawful.{Lawful, on_arguments}
 use Rattle.bz_rule.specs.Commands.{Command, IsRead, comment_of}
@@ -76,13 +78,16 @@ element_from p f start (x ∷ xs) differs any h = elim (cases_Bool (is_part star
 ]
 
 element_differs : (p : Segment → Bool) (f : Segment → Segment) (nodes : List Item) → ((s : Segment) → f s ≡ s → ⊥) → list_any (list_any p) (parts nodes) ≡ true → edit_element p f nodes ≡ nodes → ⊥
-element_differs p f nodes differs any h = elim (cases_Bool (list_all is_joint nodes)) [
-  | inl is ↦
-      let some : list_any (list_any p) (parts_from true nodes) ≡ true = rw is at any in
-      let same : edit_element_from p f true nodes ≡ nodes = rw is at h in
-      element_from p f true nodes differs some same
-  | inr other ↦ let none : false ≡ true = rw other at any in absurd cc
-]
+element_differs p f nodes differs any h =
+    let walked : list_any (list_any p) (if list_all is_joint nodes then parts_from true nodes else []) ≡ true = ap (list_any (list_any p)) (sym (parts_are nodes)) ∙ any in
+    let edited : (if list_all is_joint nodes then edit_element_from p f true nodes else nodes) ≡ nodes = sym (edit_element_is p f nodes) ∙ h in
+    elim (cases_Bool (list_all is_joint nodes)) [
+      | inl is ↦
+          let some : list_any (list_any p) (parts_from true nodes) ≡ true = rw is at walked in
+          let same : edit_element_from p f true nodes ≡ nodes = rw is at edited in
+          element_from p f true nodes differs some same
+      | inr other ↦ let none : false ≡ true = rw other at walked in absurd cc
+    ]
 
 both_none : (a b : Option Note) → option_or a b ≡ None → (a ≡ None) × (b ≡ None)
 both_none None b h = (refl, h)
@@ -119,17 +124,13 @@ comment_changes text = record {
   differs = λ own h same. push_longer own.before (comment_line text) (ap (λ (z : Comments). z.before) same);
 }
 
-attribute_edits : (home : Package) (attr text : List ℕ) → EditsComments (Comment (Attribute attr) text) home attr (λ own. true) (one_more text)
+pub attribute_edits : (home : Package) (attr text : List ℕ) → EditsComments (Comment (Attribute attr) text) home attr (λ own. true) (one_more text)
 attribute_edits home attr text = record {
   after = λ args. refl;
   told = λ args. always attr args;
   local = record { args = comment_local attr text; told = looks_at_one attr _ (λ o. done (if is_some o then None else Some (NoAttribute attr)) true) (λ args. ap (λ (b : Bool). done (if b then None else Some (NoAttribute attr)) true) (has_first attr args)); slot = λ s. refl; done = λ s. refl };
   changed = comment_changes text;
 }
-
-pub comment_attribute_edits : (home : Package) (attr text : List ℕ)
-    → EditsFirst (Comment (Attribute attr) text) home attr (λ there first. if there attr then None else Some (NoAttribute attr)) (map_or false (λ a. true)) (with_comments (one_more text))
-comment_attribute_edits home attr text = comments_edits _ home attr _ _ (attribute_edits home attr text)
 
 rule_commented : (text : List ℕ) (slot : Option Statement) → option_map (comment_rule text) slot ≡ option_map (with_above (one_more text)) slot
 rule_commented text None = refl
@@ -156,7 +157,7 @@ comment_value_edits home attr v text = record {
 
 pub comment_lawful : (home : Package) (place : Commented) (text : List ℕ) → Lawful (Comment place text) home
 comment_lawful home OfRule text = rule_comments _ home _ _ (rule_edits home text)
-comment_lawful home (Attribute attr) text = on_arguments (Comment (Attribute attr) text) home (λ slot. refl) (λ slot. refl) (edits_first _ home attr _ _ _ (comment_attribute_edits home attr text))
+comment_lawful home (Attribute attr) text = on_arguments (Comment (Attribute attr) text) home (λ slot. refl) (λ slot. refl) (edits_first _ home attr _ _ _ (comments_edits _ home attr _ _ (attribute_edits home attr text)))
 comment_lawful home (Value attr v) text = on_arguments (Comment (Value attr v) text) home (λ slot. refl) (λ slot. refl) (edits_first _ home attr _ _ _ (comment_value_edits home attr v text))
 
 -- What is read of words that are UTF-8 can be read, and its words are UTF-8.

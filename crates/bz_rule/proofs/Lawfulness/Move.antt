@@ -9,7 +9,8 @@ use Rattle.bz_rule.specs.Commands.{is_command, Command, IsRead, move_of}
 use Rattle.bz_label.specs.declared.arguments.Moved.{Moved}
 use Rattle.bz_rule.specs.declared.command.Action.TheVariants.{Move}
 use Rattle.bz_attribute.specs.Rules.{first_named, is_named, is_text as is_word, name_of, value}
-use Rattle.bz_attribute.specs.Lists.{edit_first_part, edit_parts, with_value}
+use Rattle.bz_attribute.specs.Lists.{edit_parts, with_value}
+use Rattle.bz_attribute.specs.ListWalk.{edit_first_part}
 use Rattle.bz_attribute.specs.Effects.{argument, edit_first, filtered, has, list_item, loses_all, unchosen, is_chosen, chooses}
 use Rattle.bz_rule.specs.Move.{arrivals, elements_of, move, move_note, moved, moves, put_in}
 use Rattle.bz_rule.proofs.Arguments.{attribute_named, name_put}

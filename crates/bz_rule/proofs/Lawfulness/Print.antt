@@ -4,12 +4,11 @@ use Rattle.std.specs.List.{list_all}
 use Rattle.std.proofs.lemmas.Bool.{and_parts}
 use Rattle.bz_tree.specs.Tree.{Statement}
 use Rattle.bz_label.specs.Labels.{Package}
-use Rattle.bz_label.specs.declared.arguments.Field.{Field}
+use Rattle.bz_rule.specs.declared.commands.field.Field.{Field}
 use Rattle.bz_rule.specs.declared.command.Action.TheVariants.{Print}
-use Rattle.bz_label.specs.Arguments.{field_of, is_field, is_named_field}
+use Rattle.bz_rule.specs.Print.{field_of, is_field, is_named_field, fields_of, printed, prints}
 use Rattle.bz_attribute.specs.Rules.{rule_of}
 use Rattle.bz_attribute.specs.Effects.{done}
-use Rattle.bz_rule.specs.Print.{fields_of, printed, prints}
 use Rattle.bz_rule.proofs.Lawful.{Lawful, held}
 use Rattle.std.specs.Str.{is_utf8}
 use Rattle.bz_rule.specs.declared.command.CommandFault.TheVariants.{BadAttribute}

@@ -32,17 +32,10 @@ empty_or_not (s ∷ ss) = refl
 
 none_lost : (p : Segment → Bool) (nodes : List Item) → list_any (list_any p) (parts nodes) ≡ false → loses_all (λ ss. filter (λ s. not (p s)) ss) nodes ≡ false
 none_lost p [] h = refl
-none_lost p (x ∷ y ∷ ys) h = refl
-none_lost p (leaf kind text ∷ []) h = refl
-none_lost p (group Call segs one_comma end ∷ []) h = refl
-none_lost p (group RuleCall segs one_comma end ∷ []) h = refl
-none_lost p (group Load segs one_comma end ∷ []) h = refl
-none_lost p (group Paren segs one_comma end ∷ []) h = refl
+none_lost p (leaf kind text ∷ xs) h = refl
 none_lost p (group ListKind segs one_comma end ∷ []) h = rw (all_stay p (segments segs) (or_parts (list_any p (segments segs)) false h).0) (empty_or_not (segments segs))
-none_lost p (group Index segs one_comma end ∷ []) h = refl
-none_lost p (group Dict segs one_comma end ∷ []) h = refl
-none_lost p (group ListComp segs one_comma end ∷ []) h = refl
-none_lost p (group DictComp segs one_comma end ∷ []) h = refl
+none_lost p (group ListKind segs one_comma end ∷ x ∷ xs) h = refl
+none_lost p (group _ segs one_comma end ∷ xs) h = refl
 
 pub filtered_stays : (home : Package) (chosen : Moved) (a : Segment) → chooses home chosen a ≡ false → filtered (unchosen home chosen) a ≡ a ∷ []
 filtered_stays home chosen a h =

@@ -2,8 +2,8 @@
 use Rattle.std.proofs.Common.{◌≡◌, ℕ, List, [], ◌∷◌, true, false, ◌||◌, Some, None, refl, ap, ◌∙◌, if◌then◌else◌, codes, rules, Ok}
 use Rattle.std.specs.Prelude.{drop}
 use Rattle.std.proofs.lemmas.Bool.{or_right}
-use Rattle.bz_tree.specs.Tree.{Item, Segment, leaf}
-use Rattle.bz_attribute.specs.Rules.{ident_of, is_named, is_operator_item, is_text as is_word, name_of}
+use Rattle.bz_tree.specs.Tree.{Item, Segment, leaf, is_operator_item}
+use Rattle.bz_attribute.specs.Rules.{ident_of, is_named, is_text as is_word, name_of}
 use Rattle.bz_attribute.specs.Effects.{edit_first, has}
 use Rattle.bz_rule.specs.Rename.{rename, rename_note, rename_to}
 use Rattle.bz_attribute.specs.declared.done.Note.TheVariants.{AttributeExists, NoAttribute}

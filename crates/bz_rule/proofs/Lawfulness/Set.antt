@@ -9,7 +9,8 @@ use Rattle.bz_tree.specs.declared.tree.GroupKind.TheVariants.{RuleCall}
 use Rattle.bz_tree.specs.Tree.{Item, group, Segment, Statement, segs_of}
 use Rattle.bz_attribute.specs.Rules.{Rule, rule_of, written, kind_text, is_named, first_named, value}
 use Rattle.bz_attribute.specs.Effects.{argument, done, edit_first, has, holds_rule, nodes_of, string}
-use Rattle.bz_rule.specs.Set.{New, NewString, NewNumber, NewConstant, NewStrings, new_of, new_value, are_strings, is_value, set_in, set, sets, set_if_absent, joined_by_dots, kind_items, kind_after, with_kind, sets_kind_of}
+use Rattle.bz_rule.specs.Set.{New, NewString, NewNumber, NewConstant, NewStrings, new_of, new_value, is_value, set_in, set, sets, set_if_absent, kind_items, with_kind, sets_kind_of}
+use Rattle.bz_rule.specs.private.Steps.{are_strings, kind_after, joined_by_dots}
 use Rattle.bz_attribute.proofs.Views.{segments_of}
 use Rattle.bz_label.proofs.ReadBack.{quoted_value}
 use Rattle.bz_attribute.proofs.RuleNodes.{rule_nodes}
@@ -124,7 +125,7 @@ nodes_differ kind nodes None e h same = absurd cc
 nodes_differ kind nodes (Some r) e h same =
     let other : bytes_eq (kind_text r.kind) kind ≡ false = not-true _ h in
     let made : nodes_of (record r { kind = kind_items kind }) ≡ nodes = rw other at same in
-    let old : kind_text nodes ≡ kind_text r.kind = ap kind_text (sym (rule_nodes [] nodes r e)) ∙ rule_text r in
+    let old : kind_text nodes ≡ kind_text r.kind = ap kind_text (sym (rule_nodes nodes r e)) ∙ rule_text r in
     let new : kind_text nodes ≡ kind = ap kind_text (sym made) ∙ rule_text (record r { kind = kind_items kind }) ∙ kind_read kind in
     let clash : true ≡ false = sym (same_bytes kind) ∙ ap (λ (bytes : List ℕ). bytes_eq bytes kind) (sym new ∙ old) ∙ other in
     absurd cc

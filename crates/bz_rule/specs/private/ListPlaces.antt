@@ -40,7 +40,7 @@ IsListPlace name s r ps Absent = has name r.args ≡ false
 IsListPlace name s r ps NoList = HasNoListPart name s r ps
 IsListPlace name s r ps (At from) = IsListAt name s r ps from
 
--- the same of a list to which elements may come
+-- the list to which elements may come stands there, or the rule has no such attribute
 abbrev pub IsTarget : List ℕ → Statement → Rule → List RowPart → Option ℕ → Type 0
 IsTarget name s r ps None = has name r.args ≡ false
 IsTarget name s r ps (Some from) = IsListAt name s r ps from

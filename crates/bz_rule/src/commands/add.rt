@@ -52,8 +52,8 @@ pub fn add<'a>(
     }
 }
 
-// The elements for the values that are missing in some list parts. Each is looked up in a set of the values before it and
-// of the elements that are among the values: no other element needs to be in it.
+// The elements for the values that are missing in some list parts. Each is looked up in a set of the values before it
+// and of the elements that are among the values: no other element needs to be in it.
 fn write_missing<'s>(
     env: Env<'s>,
     values: &'s [Text],
@@ -78,7 +78,7 @@ fn write_missing<'s>(
     Ok(())
 }
 
-// The same of one value, which is compared with each element: no set is made.
+// The element for one value, if it is missing. It is compared with each element: no set is made.
 fn write_if_missing(
     env: Env<'_>,
     word: &str,

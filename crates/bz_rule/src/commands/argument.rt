@@ -8,8 +8,8 @@ use bz_label::{Text, quote};
 use bz_memory::{NoMemory, extend_from_slice};
 use std::alloc::Global;
 
-/// Writes the argument that `set` adds, on a line of its own, where its value is one token or a list of one string. False,
-/// with nothing written: it is another.
+/// Writes the argument that `set` adds, on a line of its own, where its value is one token or a list of one string.
+/// False, with nothing written: it is another.
 pub fn put_argument(
     alloc: Global,
     attr: &str,

@@ -10,7 +10,9 @@ ghost use Rattle.bz_rule.specs.private.ArgumentEdits as spec;
 use crate::commands::element_edits::{edit_value, loses_all};
 use crate::commands::rewriting::make_way;
 use crate::commands::string_edit::StringEdit;
-use bz_attribute::{Done, Edit, Parts, Place, all_arguments, argument_place, first_argument};
+use bz_attribute::{
+    Done, Edit, Parts, Place, all_arguments, argument_place, first_argument, value_at,
+};
 use bz_label::Attributes;
 use bz_memory::NoMemory;
 use bz_tree::Part;
@@ -68,7 +70,7 @@ fn edit_argument<'a>(
             if argument.name.is_none() {
                 return Ok(to);
             }
-            let value = to.min(at + argument.nodes + 2);
+            let value = to.min(value_at(at + argument.nodes));
             if loses_all(strings, parts, value) {
                 make_way(parts, Place { from: at, to }, written, out)?;
                 return Ok(to);

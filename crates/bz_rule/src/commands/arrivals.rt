@@ -32,10 +32,12 @@ fn arrives<'s>(
 ) -> Result<bool, NoMemory>
     ensures arrives { IfOk result (λ arrives. arrives
         ≡ (means edit.entry (option_map (λ text. text.now) string.entry)
-        && not (map_or false (has there.old) (option_and_then value_of (option_map (λ text. text.now) string.entry))))) }
+        && not (map_or false (has there.old)
+        (option_and_then value_of (option_map (λ text. text.now) string.entry))))) }
     ensures there { OnOk result ((text : List ℕ) → has there.new text
         ≡ ((means edit.entry (option_map (λ text. text.now) string.entry)
-        && map_or false (λ value. same there.old.home.now value text) (option_and_then value_of (option_map (λ text. text.now) string.entry)))
+        && map_or false (λ value. same there.old.home.now value text)
+        (option_and_then value_of (option_map (λ text. text.now) string.entry)))
         || has there.old text)) }
     ensures home { there.new.home.now ≡ there.old.home.now }
 {

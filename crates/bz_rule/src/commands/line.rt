@@ -4,6 +4,8 @@ ghost use Rattle.std.specs.Prelude.{◌≡◌, ◌∷◌, [], IfOk, None, map, t
 ghost use Rattle.bz_tree.specs.Tree.{Statement};
 ghost use Rattle.bz_tree.specs.Rows.{above, part_view, parts_of};
 ghost use Rattle.bz_rule.specs.Comment as spec;
+ghost use Rattle.bz_rule.specs.Commands.{args_after, args_done};
+ghost use Rattle.bz_rule.specs.declared.command.Action.TheVariants.{Comment};
 ghost use Rattle.bz_attribute.specs.Effects.{done};
 ghost use Rattle.bz_attribute.specs.RowEdits.{IsRowEdit, IsWithin, replaced_at};
 ghost use Rattle.bz_attribute.specs.RowPlaces.{IsRuleRow};
@@ -34,8 +36,8 @@ pub fn comment_rule<'a>(
     insert_line(alloc, text, kind_place(parts).from, new)
 }
 
-/// Adds a comment line above an argument, or an element of one, of the rule that has these parts; for one above the rule
-/// it does nothing. The line goes into `new`.
+/// Adds a comment line above an argument, or an element of one, of the rule that has these parts; for one above the
+/// rule it does nothing. The line goes into `new`.
 pub fn comment<'a>(
     env: Env<'_>,
     commented: &Commented,
@@ -43,8 +45,9 @@ pub fn comment<'a>(
     parts: &[Part<'a>],
     new: &mut Parts<'a>,
 ) -> Result<Edit, NoMemory>
-    ensures { IfOk result (IsRowEdit (spec.comment_args commented.now env.entry.home.now text.now)
-        (spec.comment_done commented.now env.entry.home.now) (map part_view parts.now) (map part_view new.new.items)) }
+    ensures { IfOk result (IsRowEdit (args_after (Comment commented.now text.now) env.entry.home.now)
+        (args_done (Comment commented.now text.now) env.entry.home.now)
+        (map part_view parts.now) (map part_view new.new.items)) }
 {
     match commented {
         Commented::Rule => Ok(Edit::none(Done::quiet(false))),

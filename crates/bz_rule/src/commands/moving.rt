@@ -7,6 +7,7 @@ ghost use Rattle.bz_attribute.specs.Effects.{done, is_chosen};
 ghost use Rattle.bz_attribute.specs.RowEdits.{IsRowEdit, replaced_at};
 ghost use Rattle.bz_rule.specs.Move as spec;
 ghost use Rattle.bz_rule.specs.private.ListPlaces.{AreFound, AreWithin, HasPut, parts_at};
+ghost use Rattle.bz_rule.specs.private.Steps as steps;
 ghost use Rattle.bz_rule.specs.private.StringEdits.{is_meant, literal_of, means};
 
 use crate::commands::argument_edits::{ArgumentEdit, edit_in};
@@ -59,7 +60,7 @@ pub fn move_elements<'a>(
     }
 }
 
-// The same where both attributes have lists, or the new one is absent.
+// Moves the elements where the old attribute has lists, and the new one has some or is absent.
 fn move_chosen<'a>(
     env: Env<'_>,
     change: Move<'_>,
@@ -70,7 +71,7 @@ fn move_chosen<'a>(
     requires within { (lists.from ≤ length parts.now) × (IfSome lists.to (λ to. to ≤ length parts.now)) }
     requires found { AreFound change.old.now change.new.now lists (map part_view parts.now) }
     ensures { IfOk result (IsRowEdit
-        (spec.moved_where env.entry.home.now change.entry.old.now change.entry.new.now change.entry.moved.now)
+        (steps.moved_where env.entry.home.now change.entry.old.now change.entry.new.now change.entry.moved.now)
         (λ args. done Nothing (spec.moves env.entry.home.now change.entry.old.now change.entry.moved.now args))
         (map part_view parts.now) (map part_view written.new.items)) }
 {
@@ -87,7 +88,7 @@ fn move_chosen<'a>(
     }
 }
 
-// The same of the elements that are meant: they go, and then those that arrive are put into the rule that is left.
+// Moves the elements that are meant: they go, and then those that arrive are put into the rule that is left.
 fn move_meant<'a>(
     lists: Lists,
     change: Move<'_>,
@@ -99,7 +100,7 @@ fn move_meant<'a>(
     requires found { AreFound change.old.now change.new.now lists (map part_view parts.now) }
     ensures { IfOk result (λ e. (moved : Choice) → literal_of edit.entry ≡ Nothing
         → is_meant (means edit.entry) ≡ is_chosen edit.entry.env.home.now moved
-        → IsRowEdit (spec.moved_where edit.entry.env.home.now change.entry.old.now change.entry.new.now moved)
+        → IsRowEdit (steps.moved_where edit.entry.env.home.now change.entry.old.now change.entry.new.now moved)
         (λ args. done Nothing (spec.moves edit.entry.env.home.now change.entry.old.now moved args))
         (map part_view parts.now) (map part_view written.new.items) e) }
 {
@@ -157,8 +158,8 @@ fn push_places<'a>(
     Ok(())
 }
 
-// Writes the parts `left` of a rule with elements, which stand in places of `parts`: they go to the end of the first list
-// part of an attribute, or into a new one.
+// Writes the parts `left` of a rule with elements, which stand in places of `parts`: they go to the end of the first
+// list part of an attribute, or into a new one.
 fn write_with<'a>(
     attr: &str,
     parts: &[Part<'a>],

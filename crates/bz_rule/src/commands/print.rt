@@ -8,7 +8,7 @@ ghost use Rattle.bz_tree.specs.declared.tree.GroupKind.TheVariants.{RuleCall};
 ghost use Rattle.bz_tree.specs.Rows.{a_token, items_parts, part_view};
 ghost use Rattle.bz_token.specs.declared.token.Kind.{Kind};
 ghost use Rattle.bz_tree.specs.View.{nodes_view, segs_view};
-ghost use Rattle.bz_label.specs.declared.arguments.Field.TheVariants.{ValueOf};
+ghost use Rattle.bz_rule.specs.declared.commands.field.Field.TheVariants.{ValueOf};
 ghost use Rattle.bz_layout.specs.Layout.{flat_text};
 ghost use Rattle.bz_attribute.specs.Heads.{IsHeadOf};
 ghost use Rattle.bz_attribute.specs.RowPlaces.{IsRuleRow};
@@ -19,12 +19,13 @@ ghost use Rattle.bz_rule.specs.Print as spec;
 ghost use Rattle.bz_rule.specs.private.PrintSteps.{HasPrinted};
 ghost use Rattle.bz_token.specs.Common.{map_or};
 
+use crate::commands::field::Field;
 use bz_attribute::equals::string_of;
 use bz_attribute::{
     Done, Env, Executed, Head, Note, elements_at, is_list, only_text, push_home, value_end,
     value_place,
 };
-use bz_label::{Field, Package, Text, quote, read_value};
+use bz_label::{Package, Text, quote, read_value};
 use bz_layout::flat_parts;
 use bz_memory::{NoMemory, push_char, push_number, push_str, with_length_of};
 use bz_tree::{GroupKind, Node, Part, Seg, nodes_of_parts};
@@ -249,7 +250,8 @@ fn are_strings(elements: &[Seg<'_>]) -> bool
 // Writes what is one string with a value as a word. False: it is not.
 fn push_string(alloc: Global, text: &mut String, nodes: &[Node<'_>]) -> Result<bool, NoMemory>
     ensures word { OnOk result
-        (string_bytes text.new ≡ string_bytes text.old ++ map_or [] spec.word_form (string_value (nodes_view nodes.now))) }
+        (string_bytes text.new
+        ≡ string_bytes text.old ++ map_or [] spec.word_form (string_value (nodes_view nodes.now))) }
     ensures is { IfOk result (λ is. is ≡ is_some (string_value (nodes_view nodes.now))) }
 {
     let Some(literal) = only_text(nodes) else {

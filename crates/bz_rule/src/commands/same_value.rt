@@ -6,6 +6,7 @@ ghost use Rattle.bz_tree.specs.Rows.{RowPart, part_view};
 ghost use Rattle.bz_attribute.specs.Elements.{ListRest, OnlyList, rest_parts, value_parts};
 ghost use Rattle.bz_attribute.specs.Rules.{is_text};
 ghost use Rattle.bz_rule.specs.private.SetViews.{new_view};
+ghost use Rattle.bz_rule.specs.private.Steps as steps;
 ghost use Rattle.bz_rule.specs.Set as spec;
 ghost use Rattle.bz_rule.specs.private.ValueParts as parts;
 ghost use Rattle.bz_label.specs.Values.{value_of};
@@ -51,7 +52,7 @@ fn is_token(new: New<'_>, value: &[Part<'_>]) -> bool
 fn are_strings(words: &[Text], parts: &[Part<'_>], from: usize) -> bool
     requires { from ≤ length parts.now }
     ensures { (list : ListRest) (after : List RowPart) → drop from (map part_view parts.now) ≡ rest_parts list after
-        → result ≡ spec.are_strings words.now list.elements }
+        → result ≡ steps.are_strings words.now list.elements }
 {
     let mut at = from;
     for word in words {

@@ -1,6 +1,6 @@
 //! `set` and `set_if_absent`: an attribute gets a value.
 
-ghost use Rattle.std.specs.Prelude.{◌≡◌, None, false, not, map, IfOk};
+ghost use Rattle.std.specs.Prelude.{◌≡◌, None, false, is_some, not, map, IfOk};
 ghost use Rattle.bz_token.specs.Common.{map_or};
 ghost use Rattle.bz_tree.specs.Rows.{part_view};
 ghost use Rattle.bz_attribute.specs.Effects.{done, has};
@@ -82,7 +82,7 @@ pub fn set_if_absent<'a>(
 
 // What the words stand for, where the attribute is one list or not.
 pub(crate) fn new_of<'w>(attr: &str, words: &'w [Text], is_list: bool) -> New<'w>
-    ensures { (arg : _) → map_or false (λ a. lists.is_only lists.is_list (rules.value a)) arg ≡ is_list
+    ensures { (arg : _) → map_or false (λ a. is_some (lists.only_list (rules.value a))) arg ≡ is_list
         → new_view result ≡ spec.new_of attr.now words.now arg }
 {
     match words {

@@ -1,10 +1,24 @@
--- For private clauses: where a string closes, a byte at a time.
-use Rattle.std.specs.Prelude.{ℕ, ◌+◌, List, [], ◌∷◌, Bool, true, false, not, ◌&&◌, ◌||◌, ◌==◌, if◌then◌else◌}
+-- For private clauses: what opens a string and where it closes, a byte at a time.
+use Rattle.std.specs.Prelude.{ℕ, ◌+◌, List, [], ◌∷◌, Bool, true, false, not, ◌&&◌, ◌||◌, ◌==◌, if◌then◌else◌, Option}
 use Rattle.bz_token.specs.declared.scan_string.Escape.{Escape}
 use Rattle.bz_token.specs.declared.scan_string.Escape.TheVariants.{Unescaped, AfterBackslash, AfterReturn}
 use Rattle.bz_token.specs.declared.scan_string.Quotes.{Quotes}
-use Rattle.bz_token.specs.Lexical.{closing_row}
-use Rattle.bz_token.specs.Common.{is_empty}
+use Rattle.bz_token.specs.declared.scan_string.Opening.{Opening}
+use Rattle.bz_token.specs.Strings.{closing_row, has_closing, inside, is_one_string}
+use Rattle.bz_token.specs.Common.{begins, is_empty, map_or}
+
+-- the letters `r`, `b`, `rb` and `br` that stand here
+abbrev pub prefix_letters : List ℕ → ℕ
+prefix_letters [] = 0
+prefix_letters (a ∷ bs) =
+    if a == 114 then (if begins (λ b. b == 98) bs then 2 else 1)
+    else (if a == 98 then (if begins (λ b. b == 114) bs then 2 else 1) else 0)
+
+abbrev pub opening_length : Opening → ℕ
+opening_length o = o.prefix + closing_row o.quotes.long
+
+abbrev pub is_closed : Option Opening → List ℕ → Bool
+is_closed opened text = map_or false (λ o. has_closing o.quotes (inside o text) && is_one_string o text) opened
 
 -- a backslash takes the byte after it along, and a newline after that where it is a carriage return
 abbrev pub is_escaped : Escape → ℕ → Bool

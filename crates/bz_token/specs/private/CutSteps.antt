@@ -1,5 +1,7 @@
 -- For private clauses: a byte at a time.
-use Rattle.std.specs.Prelude.{◌≡◌, ℕ, ◌+◌, ◌-◌, List, [], ◌∷◌, ◌++◌, drop, Bool, true, false, Option, None, cond, ◌||◌, ◌==◌, if◌then◌else◌}
+use Rattle.std.specs.Prelude.{◌≡◌, ℕ, ◌+◌, ◌-◌, List, [], ◌∷◌, ◌++◌, drop, Bool, true, false, Option, None, cond, ◌||◌, ◌==◌, if◌then◌else◌, codes}
+use Rattle.std.specs.List.{list_any}
+use Rattle.bz_token.specs.Strings.{is_byte}
 use Rattle.bz_token.specs.declared.cutter.scan.Quote.{Quote}
 use Rattle.bz_token.specs.declared.cutter.scan.Quote.TheVariants.{Single, Double}
 use Rattle.bz_token.specs.declared.cutter.scan.LineKind.{LineKind}
@@ -21,6 +23,15 @@ abbrev pub is_ended : CutState → Bool
 is_ended Ended = true
 is_ended BrokenOff = true
 is_ended _ = false
+
+abbrev pub is_one_of : List ℕ → List ℕ → Bool
+is_one_of bytes text = list_any (λ b. is_byte b text) bytes
+
+-- how many brackets are open after a piece
+abbrev pub count : ℕ → List ℕ → ℕ
+count depth piece =
+    if is_one_of (codes "([{") piece then depth + 1
+    else (if is_one_of (codes ")]}") piece then depth - 1 else depth)
 
 abbrev pub byte_of : Quote → ℕ
 byte_of Single = 39

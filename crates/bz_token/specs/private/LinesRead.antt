@@ -1,17 +1,13 @@
 -- For private clauses: the lines of a chunk, as far as they were read.
-use Rattle.bz_memory.specs.NoMemory.{no_memory}
-use Rattle.std.specs.Prelude.{◌≡◌, ◌⊎◌, ℕ, List, [], ◌∷◌, ◌++◌, length, true, false}
+use Rattle.std.specs.Prelude.{◌≡◌, ℕ, List, [], ◌∷◌, ◌++◌, length, true, false}
 use Rattle.std.specs.List.{list_any}
 use Rattle.bz_token.specs.declared.fault.LexFault.{LexFault}
-use Rattle.bz_token.specs.declared.fault.LexFault.TheVariants.{OutOfMemory, OpenText}
 use Rattle.bz_token.specs.declared.lexer.Lexer.{Lexer}
 use Rattle.bz_token.specs.declared.lexer.Cursor.{Cursor}
 use Rattle.bz_token.specs.Places.{Placed}
 use Rattle.bz_token.specs.Brackets.{is_line}
 use Rattle.bz_token.specs.Reading.{Piece}
 use Rattle.bz_token.specs.Faults.{IsFault}
-use Rattle.bz_token.specs.UpToFault.{IsFaultAfter}
-use Rattle.bz_token.specs.FirstChunk.{AreInChunk}
 use Rattle.bz_token.specs.FreshStart.{ends_in_line}
 use Rattle.bz_token.specs.TokenLines.{is_newline_piece, lines_of}
 use Rattle.bz_token.specs.ChunkForms.{are_comments}
@@ -42,25 +38,7 @@ pub record IsAfterLine (first depth : ℕ) (bytes : List ℕ) (lexer : Lexer) (c
   pub newline : is_line last.kind ≡ true
   pub start_is : start ≡ length done
 
--- memory is wanted, or the text's first fault stands after these gaps and tokens
-abbrev pub IsStopped : ℕ → ℕ → List ℕ → List Piece → LexFault → Type 0
-IsStopped first depth bytes pieces fault = (fault ≡ OutOfMemory no_memory) ⊎ IsFaultAfter first depth bytes pieces fault
-
--- and these are comment lines and the front of a line
-abbrev pub IsFaultInLine : ℕ → ℕ → List ℕ → LexFault → Type 0
-IsFaultInLine first depth bytes fault = (done line : List Piece) × AreInChunk done line × IsStopped first depth bytes (done ++ line) fault
-
--- a string that nothing closes begins on this line
-abbrev pub IsOnLine : ℕ → LexFault → Type 0
-IsOnLine at fault = (line : ℕ) (col : ℕ) → fault ≡ OpenText line col → line ≡ at
-
--- After comment lines and the front of a line stands a string that nothing closes.
-abbrev pub IsOpenInLine : ℕ → ℕ → List ℕ → ℕ → LexFault → Type 0
-IsOpenInLine first depth bytes start fault =
-    (line : ℕ) (col : ℕ) → fault ≡ OpenText line col
-    → (lexer : Lexer) × (cursor : Cursor) × IsInLine first depth bytes lexer cursor start × (cursor.place.line ≡ line)
-
--- What was read from a cursor on, in five clauses: the line goes on at the next cursor
+-- What was read from a cursor on: the line goes on at the next cursor
 abbrev pub StaysInLine : ℕ → Lexer → Cursor → Lexer → Cursor → Type 0
 StaysInLine depth before from after to =
     (first : ℕ) (bytes : List ℕ) (start : ℕ) → IsInLine first depth bytes before from start → IsInLine first depth bytes after to start
@@ -70,17 +48,7 @@ abbrev pub EndsLine : ℕ → Lexer → Cursor → Lexer → Cursor → Type 0
 EndsLine depth before from after to =
     (first : ℕ) (bytes : List ℕ) (start : ℕ) → IsInLine first depth bytes before from start → IsAfterLine first depth bytes after to start
 
--- it has this fault, if it is a string that nothing closes
-abbrev pub IsOpenFrom : ℕ → Lexer → Cursor → LexFault → Type 0
-IsOpenFrom depth lexer from fault =
-    (first : ℕ) (bytes : List ℕ) (start : ℕ) → IsInLine first depth bytes lexer from start → IsOpenInLine first depth bytes start fault
-
--- it has this fault
-abbrev pub IsFaultOfLine : ℕ → Lexer → Cursor → LexFault → Type 0
-IsFaultOfLine depth lexer from fault =
-    (first : ℕ) (bytes : List ℕ) (start : ℕ) → IsInLine first depth bytes lexer from start → IsFaultInLine first depth bytes fault
-
--- and the text has it
+-- the text has this fault
 abbrev pub IsFaultFrom : ℕ → Lexer → Cursor → LexFault → Type 0
 IsFaultFrom depth lexer from fault =
     (first : ℕ) (bytes : List ℕ) (given : List Placed) → HasRead first depth bytes given lexer from → IsFault first depth bytes fault

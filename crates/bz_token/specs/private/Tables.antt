@@ -3,9 +3,10 @@ use Rattle.std.specs.Prelude.{◌≡◌, ℕ, Bool, false, ◌||◌, ◌==◌, i
 use Rattle.std.specs.Char.{is_ascii_digit}
 use Rattle.bz_token.specs.declared.table.ByteClass.{ByteClass}
 use Rattle.bz_token.specs.declared.table.ByteClass.TheVariants.{Unknown, Space, Newline, Letter, Prefix, Digit, Quote, Hash, Backslash, Open, Close, Point, Operator}
-use Rattle.bz_token.specs.Pieces.{is_quote}
-use Rattle.bz_token.specs.Lexical.{is_word_byte, is_blank}
+use Rattle.bz_token.specs.Strings.{is_quote}
+use Rattle.bz_token.specs.Lexical.{is_word_byte}
 use Rattle.bz_token.specs.Brackets.{is_opening_bracket, is_closing_bracket}
+use Rattle.bz_token.specs.Pieces.{is_blank}
 
 -- the letters of a string's prefix
 abbrev pub is_prefix_letter : ℕ → Bool

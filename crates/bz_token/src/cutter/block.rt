@@ -3,9 +3,10 @@
 ghost use Rattle.std.specs.Prelude.{◌≡◌, ◌<◌, [], true, false, bytes_eq};
 ghost use Rattle.std.specs.List.{list_all};
 ghost use Rattle.bz_token.specs.Lexical.{is_word_byte};
-ghost use Rattle.bz_token.specs.Blocks.{is_white, word_at, opener_of, has_branch, goes_on};
+ghost use Rattle.bz_token.specs.Blocks.{word_at, opener_of, has_branch, goes_on};
 ghost use Rattle.bz_token.specs.private.Phases.{phase_of, phase_step};
 ghost use Rattle.bz_token.specs.private.Decided.{DecidesAhead, is_branch_front};
+ghost use Rattle.bz_token.specs.Pieces.{is_white};
 
 use super::Next;
 use super::scan::LineKind;
@@ -31,7 +32,7 @@ pub enum ChunkPhase {
 }
 
 fn is_white(b: u8) -> bool
-    ensures { result ≡ is_white b }
+    ensures { result ≡ is_white true b }
 {
     matches!(b, b' ' | b'\t' | b'\r' | b'\n')
 }

@@ -148,9 +148,6 @@ after_sign bytes G xs b = headed (IsRole (leaf_role OperatorToken bytes)) (Meant
 after_name : (G : Items → Type 0) (xs : Items) → Both (Meant (any Identifier)) G xs → Headed (IsRole Name) G xs
 after_name G xs b = headed (IsRole Name) (Meant (any Identifier)) G name_of xs b
 
-IsPrefix : Item → Type 0
-IsPrefix x = is_prefix (token_role x) ≡ true
-
 -- segments
 abbrev EachIn : (Items → Type 0) → Segs → Type 0
 EachIn F no_segs = Unit {0}

@@ -10,7 +10,8 @@ use Rattle.bz_token.specs.Lexical.{is_one_of}
 use Rattle.bz_tree.specs.declared.grammar.role.Role.{Role}
 use Rattle.bz_tree.specs.declared.grammar.role.Role.TheVariants.{Name, Number, Value, Dot, Comma, Colon, Equals, Augmented, If, Else, For, In, Not, Tilde, Sum, Star, Stars, Operator, Stray}
 use Rattle.bz_tree.specs.Tree.{Item, leaf, group}
-use Rattle.bz_tree.specs.Statement.{augmented, is_augmented}
+use Rattle.bz_tree.specs.Statement.{augmented}
+use Rattle.bz_tree.specs.private.KindSteps.{is_augmented}
 use Rattle.bz_tree.specs.Grammar.{any, word, sign, prefix, star, assignment, binary, binary_signs, binary_words, Part, node, Has, of_kind, of_texts, this, that}
 use Rattle.bz_tree.specs.private.Productions.{word_role, operator_role, is_infix, token_role}
 

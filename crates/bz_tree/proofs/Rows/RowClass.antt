@@ -2,10 +2,10 @@
 use Rattle.std.proofs.Common.{arith, ◌≡◌, ℕ, List, [], ◌∷◌, Bool, true, false, cond, ◌&&◌, ◌||◌, refl, sym, ap, ◌∙◌}
 use Rattle.std.specs.Prelude.{codes}
 use Rattle.std.specs.Str.{bytes_eq}
-use Rattle.std.proofs.lemmas.Bool.{false≢true, and_parts}
+use Rattle.std.proofs.lemmas.Bool.{false≢true}
 use Rattle.std.proofs.lemmas.Slice.Eq.{bytes_eq-Decides}
 use Rattle.bz_token.specs.declared.token.Kind.{Kind}
-use Rattle.bz_token.specs.declared.token.Kind.TheVariants.{Keyword, Operator as OperatorToken, Kept}
+use Rattle.bz_token.specs.declared.token.Kind.TheVariants.{Identifier, Keyword, Operator as OperatorToken, Kept}
 use Rattle.bz_tree.specs.declared.tree.GroupKind.{GroupKind}
 use Rattle.bz_tree.specs.declared.tree.Class.TheVariants.{Assign, Rule, Other, Load as LoadClass}
 use Rattle.bz_tree.specs.declared.grammar.role.Role.{Role}
@@ -17,9 +17,11 @@ use Rattle.bz_tree.specs.declared.grammar.stage.Stage.TheVariants.{Refused, Stat
 use Rattle.bz_tree.specs.declared.tree.classes.Naming.{Naming}
 use Rattle.bz_tree.specs.declared.tree.classes.Naming.TheVariants.{Name, Join, End, Never, Lost}
 use Rattle.bz_tree.specs.declared.row.spot.Read.{Read}
-use Rattle.bz_tree.specs.Tree.{Item, leaf, group, Segs, items_of}
+use Rattle.bz_tree.specs.Tree.{Item, leaf, group, Segs, items_of, is_call, is_rule, is_rule_after}
 use Rattle.bz_tree.specs.private.Productions.{leaf_role, operator_role, is_infix, is_assignment}
-use Rattle.bz_tree.specs.Statement.{is_ident, is_call, is_rule, is_rule_after, as_rule_call, rule_call, is_assign_operator, is_assign, is_load_word, is_kept, class_of, is_augmented}
+use Rattle.bz_tree.specs.Statement.{as_rule_call, is_assign, is_load_word, is_kept, class_of}
+use Rattle.bz_tree.specs.Elements.{rule_call}
+use Rattle.bz_tree.specs.private.KindSteps.{is_assign_operator, is_augmented}
 use Rattle.bz_tree.specs.private.Machine.{may_end, in_chain, after_goal, leaves, next_wanted, next_after, next, begin, group_role, is_whole, kind_role, accepts, role_of, each}
 use Rattle.bz_tree.specs.private.RowSteps.{named, called, is_rule_read, is_lost, is_done, read_class}
 use Rattle.bz_tree.proofs.Recognizer.Accepted.{refused}
@@ -29,7 +31,7 @@ use Rattle.bz_tree.proofs.Rows.RowParts.{read_item, read_items, shown_item, show
 use Rattle.bz_token.specs.Common.{is_empty}
 use Rattle.bz_token.specs.Lexical.{is_one_of}
 use Rattle.std.specs.List.{list_any}
-use Rattle.std.proofs.Math.Bool.{and-false, or-false, or_assoc}
+use Rattle.std.proofs.Math.Bool.{or-false, or_assoc}
 use Rattle.bz_tree.proofs.Trees.OneBracket.{same_either}
 
 -- a rule, from some node on
@@ -66,9 +68,6 @@ lost_stays va vb vc = grind arith
 never_lost : (xs : List Item) (r : Read) → is_lost (read_items r xs).naming ≡ false → is_lost r.naming ≡ false
 never_lost [] r h = h
 never_lost (x ∷ xs) r h = lost_stays r.naming x (ap is_lost (sym (naming_is x r)) ∙ never_lost xs (read_item x r) h)
-
-after_end : (x : Item) → is_lost (naming_item End x) ≡ true
-after_end va = grind arith
 
 -- a node that another one follows
 goes_on : (n : Naming) (x y : Item) → is_lost (naming_item (naming_item n x) y) ≡ false → shown_item n x ≡ x
@@ -158,8 +157,8 @@ same_from : (xs : List Item) (n : Naming) (s : Stage) → from n xs ≡ true →
 same_from [] n s h = record { accepts_same = refl; assigns_same = refl; rule_same = refl }
 same_from (leaf kind text ∷ []) n s h = record { accepts_same = refl; assigns_same = refl; rule_same = refl }
 same_from (leaf kind text ∷ y ∷ ys) n s h = after_leaf n kind text s y ys (same_from (y ∷ ys) (named n kind text) (next s (kind_role kind text)) (sym (from_step n (leaf kind text) (y ∷ ys)) ∙ h))
-same_from (group kind segs one_comma end ∷ []) Join s h = call_same kind segs one_comma end s (and_parts (is_call kind) true h).0
-same_from (group kind segs one_comma end ∷ y ∷ ys) Join s h = absurd (false≢true (sym (and-false (is_call kind)) ∙ h))
+same_from (group kind segs one_comma end ∷ []) Join s h = call_same kind segs one_comma end s h
+same_from (group kind segs one_comma end ∷ y ∷ ys) Join s h = absurd (false≢true h)
 same_from (group kind segs one_comma end ∷ xs) _ s h = absurd (false≢true h)
 
 with_same : (xs : List Item) (s : Stage) (b : Bool) → is_rule xs ≡ b → (accepts s (items_of (cond b (rule_call xs) xs)) ≡ accepts s (items_of xs)) × (list_any is_assign (cond b (rule_call xs) xs) ≡ list_any is_assign xs) × (is_rule (cond b (rule_call xs) xs) ≡ is_rule xs)
@@ -302,7 +301,8 @@ class_other : (x : Item) (xs : List Item) (b : Bool) → is_rule (x ∷ xs) ≡ 
     → class_of (cond b (rule_call (x ∷ xs)) (x ∷ xs)) ≡ cond (list_any is_assign (cond b (rule_call (x ∷ xs)) (x ∷ xs))) Assign (cond (is_rule (cond b (rule_call (x ∷ xs)) (x ∷ xs))) Rule Other)
 class_other x xs false e off h = other_class x xs off h
 class_other x (y ∷ ys) true e off h = other_class x (rule_call (y ∷ ys)) off h
-class_other (leaf kind text) [] true e off h = absurd (false≢true (and_parts (is_ident kind) false e).1)
+class_other (leaf Identifier text) [] true e off h = absurd (false≢true e)
+class_other (leaf _ text) [] true e off h = absurd (false≢true e)
 class_other (group kind segs one_comma end) [] true e off h = absurd (false≢true e)
 
 pub class_is : (x : Item) (xs : List Item) (r : Read) → r.stage ≡ Statement → r.naming ≡ Name → r.assigns ≡ false → accepts Statement (items_of (x ∷ xs)) ≡ true → read_class (read_items r (x ∷ xs)) ≡ class_of (with_rule (x ∷ xs))

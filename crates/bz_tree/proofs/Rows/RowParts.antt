@@ -10,7 +10,7 @@ use Rattle.bz_tree.specs.declared.row.spot.SegmentCount.{SegmentCount}
 use Rattle.bz_tree.specs.declared.row.spot.SegmentCount.TheVariants.{Zero, One, More}
 use Rattle.bz_tree.specs.declared.row.spot.Read.{Read}
 use Rattle.bz_tree.specs.Tree.{Item, leaf, group, Segment, items_of, segs_of}
-use Rattle.bz_tree.specs.Brackets.{after_item}
+use Rattle.bz_tree.specs.Kinds.{after_item}
 use Rattle.bz_tree.specs.Rows.{RowPart, opening, segment_end, above, beside, beside_part, item_parts, items_parts, segs_parts}
 use Rattle.bz_tree.specs.private.Machine.{next, may_end, later, accepts, role_of, each}
 use Rattle.bz_tree.specs.private.Steps.{to_last}

@@ -18,8 +18,10 @@ use Rattle.bz_tree.specs.declared.tree.kinds.Preceding.{Preceding}
 use Rattle.bz_tree.specs.declared.tree.kinds.Preceding.TheVariants.{Operand, Other}
 use Rattle.bz_tree.specs.declared.row.spot.Read.{Read}
 use Rattle.bz_tree.specs.Tree.{Item, Segment, no_segs, segs_of}
-use Rattle.bz_tree.specs.Kinds.{kind_mark, mark_of, kind_after, is_for_at, group_kind, is_one, same_shape}
-use Rattle.bz_tree.specs.Owners.{node, comma, comment, no_token, end_of_node, end_of_comma, Inside}
+use Rattle.bz_tree.specs.Kinds.{kind_mark, mark_of, group_kind, is_one}
+use Rattle.bz_tree.specs.private.KindSteps.{kind_after, is_for_at, same_shape}
+use Rattle.bz_tree.specs.Owners.{node, comma, comment, Inside}
+use Rattle.bz_tree.specs.Cells.{no_token, end_of_node, end_of_comma}
 use Rattle.bz_tree.specs.Brackets.{leaf_of, is_for_item, is_paren, group_with, end_line}
 use Rattle.bz_tree.specs.Rows.{RowPart, opening, closing, segment_end, above, beside, beside_part, item_parts}
 use Rattle.bz_tree.specs.private.Machine.{next, may_end, begin, later, is_whole, each, role_of, group_role}

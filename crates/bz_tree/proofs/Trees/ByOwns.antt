@@ -8,10 +8,13 @@ use Rattle.bz_tree.specs.declared.tree.kinds.Preceding.{Preceding}
 use Rattle.bz_tree.specs.declared.tree.kinds.Preceding.TheVariants.{Other}
 use Rattle.bz_token.specs.Places.{Placed}
 use Rattle.bz_tree.specs.Tree.{Item, Segment}
-use Rattle.bz_tree.specs.Kinds.{mark_of, is_one, group_kind, same_shape}
+use Rattle.bz_tree.specs.Kinds.{mark_of, is_one, group_kind}
+use Rattle.bz_tree.specs.private.KindSteps.{same_shape}
 use Rattle.bz_tree.specs.Owners.{Own, node, comma, comment, Inside}
-use Rattle.bz_tree.specs.Brackets.{own_items, own_of, preceding, has_for, group_with}
-use Rattle.bz_tree.specs.Statement.{segment_with}
+use Rattle.bz_tree.specs.Brackets.{own_items, preceding, group_with}
+use Rattle.bz_tree.specs.Elements.{has_for}
+use Rattle.bz_tree.specs.Elements.{own_of}
+use Rattle.bz_tree.specs.Elements.{segment_with}
 use Rattle.bz_tree.specs.private.Steps.{Walked, at_start, after_node, after_comma, after_comment, done}
 
 abbrev pub after : Own → Walked → Option Walked

@@ -3,7 +3,8 @@ use Rattle.std.proofs.Common.{◌≡◌, ℕ, List, [], ◌∷◌, true, false, 
 use Rattle.bz_token.specs.declared.token.Kind.TheVariants.{Identifier, Operator}
 use Rattle.bz_token.specs.Places.{Placed}
 use Rattle.bz_tree.specs.Tree.{Item, leaf, Segment}
-use Rattle.bz_tree.specs.Owners.{node, comma, comment, no_token, inside, a_node, a_comma, a_comment, inside_by_cells, entries_of}
+use Rattle.bz_tree.specs.Owners.{node, comma, comment}
+use Rattle.bz_tree.specs.Cells.{no_token, inside, a_node, a_comma, a_comment, inside_by_cells, entries_of}
 
 abbrev x : Item
 x = leaf Identifier (codes "x")

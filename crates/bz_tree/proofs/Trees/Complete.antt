@@ -7,13 +7,21 @@ use Rattle.bz_tree.specs.declared.tree.kinds.Preceding.{Preceding}
 use Rattle.bz_tree.specs.declared.tree.kinds.Preceding.TheVariants.{Other}
 use Rattle.bz_token.specs.Places.{Placed}
 use Rattle.bz_tree.specs.Tree.{Item, Segment, Statement}
-use Rattle.bz_tree.specs.Kinds.{mark_of, group_kind, is_one, same_shape}
-use Rattle.bz_tree.specs.Owners.{Own, node, inside}
-use Rattle.bz_tree.specs.Brackets.{Elem, single, bracket, Elems, no_elems, elem, elem_tokens, elems_tokens, has_for, group_of, group_with, own_items, own_of, preceding, elem_own, elems_own, is_single, IsWell, AreWell, is_line, without_lines}
-use Rattle.bz_tree.specs.Statement.{segment_with, segment_of, statement_with, IsStatementOf}
+use Rattle.bz_tree.specs.Kinds.{mark_of, group_kind, is_one}
+use Rattle.bz_tree.specs.private.KindSteps.{same_shape}
+use Rattle.bz_tree.specs.Owners.{Own, node}
+use Rattle.bz_tree.specs.Cells.{inside}
+use Rattle.bz_tree.specs.Brackets.{group_with, own_items, preceding, is_line, without_lines}
+use Rattle.bz_tree.specs.Elements.{has_for}
+use Rattle.bz_tree.specs.Elements.{group_of}
+use Rattle.bz_tree.specs.Elements.{Elem, single, bracket, Elems, no_elems, elem, elem_tokens, elems_tokens, own_of, elem_own, elems_own, is_single, IsWell, AreWell}
+use Rattle.bz_tree.specs.Statement.{statement_with, IsStatementOf}
+use Rattle.bz_tree.specs.Elements.{segment_with}
+use Rattle.bz_tree.specs.Elements.{segment_of}
 use Rattle.bz_tree.specs.private.Steps.{at_start}
 use Rattle.bz_tree.proofs.Trees.ByOwns.{Level, Levels, with_own, new_level, closed, next_at, run, content, walk}
 use Rattle.bz_tree.proofs.Trees.OneBracket.{inside_found, nodes_alone}
+use Rattle.bz_tree.proofs.Trees.Nested.{tree_of}
 
 abbrev in_level : Option Shape → List Own → Preceding → Level
 in_level shape owns at = record { shape = shape; owns = owns; at = at }
@@ -86,7 +94,8 @@ top_found os =
     ap (option_map segment_with) is
 
 pub statement_found : (ts : List Placed) (s : Statement) → IsStatementOf ts s → option_map (statement_with ts) (run (new_level None) [] ts) ≡ Some s
-statement_found ts s is =
+statement_found ts s of =
+    let is = tree_of ts s of in
     let tokens : without_lines ts ≡ elems_tokens is.elems ++ [] = is.tokens_are ∙ sym (append-nil (elems_tokens is.elems)) in
     let found : run (new_level None) [] ts ≡ Some (segment_of (elems_own Other is.elems)) =
     without ts (new_level None) [] ∙ ap (run (new_level None) []) tokens ∙ elems_run is.elems Other is.well None [] [] [] ∙ top_found (elems_own Other is.elems) in

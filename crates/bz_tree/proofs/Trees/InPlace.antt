@@ -11,10 +11,14 @@ use Rattle.bz_tree.specs.declared.tree.kinds.Preceding.{Preceding}
 use Rattle.bz_tree.specs.declared.tree.kinds.Preceding.TheVariants.{Operand, LoadWord, Other}
 use Rattle.bz_token.specs.Places.{Placed}
 use Rattle.bz_tree.specs.Tree.{Item, Segment}
-use Rattle.bz_tree.specs.Kinds.{mark_of, group_kind, is_one, same_shape}
-use Rattle.bz_tree.specs.Owners.{Own, node, comma, comment, Last, end_of_comma, is_on}
-use Rattle.bz_tree.specs.Brackets.{own_item, own_items, own_of, preceding, has_for, is_for_item, group_with}
-use Rattle.bz_tree.specs.Statement.{segment_with}
+use Rattle.bz_tree.specs.Kinds.{mark_of, group_kind, is_one}
+use Rattle.bz_tree.specs.private.KindSteps.{own_item, same_shape}
+use Rattle.bz_tree.specs.Owners.{Own, node, comma, comment}
+use Rattle.bz_tree.specs.Cells.{Last, end_of_comma, is_on}
+use Rattle.bz_tree.specs.Brackets.{own_items, preceding, is_for_item, group_with}
+use Rattle.bz_tree.specs.Elements.{has_for}
+use Rattle.bz_tree.specs.Elements.{own_of}
+use Rattle.bz_tree.specs.Elements.{segment_with}
 use Rattle.bz_tree.specs.private.Steps.{Walked, at_start, after_own, after_node, after_comma, after_comment, commented, to_last, done, Level, Levels, is_for, is_in_first, has_one, as_comprehension, shape_of, with_own, new_level, closed, next_at, finish, run}
 use Rattle.bz_tree.proofs.Trees.ByOwns.{after, walk, content}
 use Rattle.bz_tree.proofs.Trees.ByOwns as by_owns
@@ -207,9 +211,6 @@ own_same (Some Curly) b owns at own = becomes_one (group_kind Curly Other false)
 
 abbrev image_of : by_owns.Levels → Levels
 image_of ls = (image (before_of ls.1) ls.0, images ls.1)
-
-shape_stays : (s : Shape) (b : Preceding) (h : Bool) → shape_of (group_kind s b h) ≡ s
-shape_stays va vb vc = grind arith
 
 shapes_stay : (o : Option Shape) (b : Preceding) (h : Bool) → option_map shape_of (kind_by o b h) ≡ o
 shapes_stay va vb vc = grind arith

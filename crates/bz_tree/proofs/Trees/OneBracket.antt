@@ -4,10 +4,12 @@ use Rattle.std.proofs.lemmas.Bool.{false≢true}
 use Rattle.std.proofs.Math.Bool.{and-false}
 use Rattle.bz_token.specs.Places.{Placed}
 use Rattle.bz_tree.specs.Tree.{Item, Segment}
-use Rattle.bz_tree.specs.Owners.{Own, node, comma, comment, Last, no_token, end_of_node, end_of_comma, no_empty, Inside, inside, Entry, a_node, a_comma, a_comment, first_cell, other_cells, same_line, later_lines, nodes_in, has_node, comments_in, above_last, beside_last, below_last, segments_from, end_from, has_trailing_comma, entries_of}
+use Rattle.bz_tree.specs.Owners.{Own, node, comma, comment, Inside}
+use Rattle.bz_tree.specs.Cells.{Last, no_token, end_of_node, end_of_comma, no_empty, inside, Entry, a_node, a_comma, a_comment, first_cell, other_cells, same_line, later_lines, nodes_in, has_node, comments_in, above_last, beside_last, below_last, segments_from, end_from, has_trailing_comma, entries_of}
 use Rattle.bz_tree.specs.Brackets.{own_items}
 use Rattle.bz_tree.specs.Comments.{beside as texts_of}
-use Rattle.bz_tree.specs.Statement.{as_rule_call, rule_call}
+use Rattle.bz_tree.specs.Statement.{as_rule_call}
+use Rattle.bz_tree.specs.Elements.{rule_call}
 use Rattle.bz_tree.specs.private.Steps.{Walked, at_start, after_node, add_beside, to_last, commented, done}
 use Rattle.bz_tree.proofs.Trees.ByOwns.{walk}
 use Rattle.bz_token.specs.Common.{first_of, is_filled}

@@ -6,19 +6,20 @@ use Rattle.bz_token.specs.Places.{Placed}
 use Rattle.bz_tree.specs.declared.tree.Group.{Group as GroupValue, Group-F, out-Group, roll-Group, out-roll-Group}
 use Rattle.bz_tree.specs.declared.tree.GroupKind.{GroupKind}
 use Rattle.bz_tree.specs.declared.tree.GroupKind.TheVariants.{Call, RuleCall, Load, Paren, List as ListKind, Index, Dict, ListComp, DictComp}
-use Rattle.bz_tree.specs.declared.tree.Leaf.{Leaf}
-use Rattle.bz_tree.specs.declared.tree.Node.{Node, Token, Group, the_lemmas}
+use Rattle.bz_tree.specs.declared.tree.Node.{Node, Group, the_lemmas}
 use Rattle.bz_tree.specs.declared.tree.Seg.{Seg, Seg-F, roll-Seg, out-roll-Seg}
 use Rattle.bz_tree.specs.declared.tree.build.Frame.{Frame}
 use Rattle.bz_tree.specs.declared.tree.owners.Inside.{Inside as RustInside}
 use Rattle.bz_tree.specs.declared.tree.kinds.Mark.{Mark}
 use Rattle.bz_tree.specs.declared.tree.kinds.Mark.TheVariants.{Open, Close, Comma, Comment, Newline, Plain}
 use Rattle.bz_tree.specs.Tree.{Item}
-use Rattle.bz_tree.specs.Kinds.{mark_of, same_shape}
+use Rattle.bz_tree.specs.Kinds.{mark_of}
+use Rattle.bz_tree.specs.private.KindSteps.{same_shape}
 use Rattle.bz_tree.specs.View.{seg_view}
-use Rattle.bz_tree.specs.Owners.{Inside, Own, node, comma, comment, Last, no_token, end_of_node, end_of_comma, is_on}
-use Rattle.bz_tree.specs.Brackets.{own_of}
-use Rattle.bz_tree.specs.Places.{Spelled, a_leaf, opens, closes, joined, place_of, node_spelling, group_spelling, seg_spelling, spelled, AreSpelled}
+use Rattle.bz_tree.specs.Owners.{Inside, Own, node, comma, comment}
+use Rattle.bz_tree.specs.Cells.{Last, no_token, end_of_node, end_of_comma, is_on}
+use Rattle.bz_tree.specs.Elements.{own_of}
+use Rattle.bz_tree.specs.Places.{Spelled, opens, closes, joined, group_spelling, seg_spelling, spelled, AreSpelled}
 use Rattle.bz_tree.specs.private.Steps.{Walked, Level, Levels, after_own, as_comprehension, closed, commented, done, has_one, inside_view, is_for, is_in_first, levels, new_level, next_at, shape_of, to_last, with_own}
 use Rattle.bz_tree.specs.private.PlacedSteps.{AreFlat, AreSpelledFrom, IsFlat, IsFlatAt, nodes_spelling, segs_spelling}
 use Rattle.bz_tree.proofs.Trees.Sound.{some_injective}
@@ -47,17 +48,11 @@ on_always (Err why) g = tt
 pub spelled_seg : (s : Seg) → seg_spelling s ≡ nodes_spelling s.nodes.items
 spelled_seg s = search (rules, the_lemmas)
 
-pub spelled_Group : (g : GroupValue) → node_spelling (Group g) ≡ group_spelling g
-spelled_Group g = search (rules, the_lemmas)
-
 pub spelled_group : (g : GroupValue) → group_spelling g ≡ opens ∷ (segs_spelling (out-Group g).segs.items ++ closes ∷ [])
 spelled_group g = search (rules, the_lemmas)
 
 pub made_group : (g : Group-F Node GroupValue Seg) → group_spelling (roll-Group g) ≡ opens ∷ (segs_spelling g.segs.items ++ closes ∷ [])
 made_group g = spelled_group (roll-Group g) ∙ ap (λ (x : Group-F Node GroupValue Seg). opens ∷ (segs_spelling x.segs.items ++ closes ∷ [])) (out-roll-Group g)
-
-pub spelled_token : (t : Leaf) → node_spelling (Token t) ≡ a_leaf (place_of t) ∷ []
-spelled_token t = search (rules, the_lemmas)
 
 pub made_seg : (s : Seg-F Node GroupValue Seg) → seg_spelling (roll-Seg s) ≡ nodes_spelling s.nodes.items
 made_seg s = spelled_seg (roll-Seg s) ∙ ap (λ (x : Seg-F Node GroupValue Seg). nodes_spelling x.nodes.items) (out-roll-Seg s)

@@ -7,13 +7,20 @@ use Rattle.bz_tree.specs.declared.tree.kinds.Preceding.{Preceding}
 use Rattle.bz_tree.specs.declared.tree.kinds.Preceding.TheVariants.{Other}
 use Rattle.bz_token.specs.Places.{Placed}
 use Rattle.bz_tree.specs.Tree.{Item, Segment, Statement}
-use Rattle.bz_tree.specs.Kinds.{mark_of, group_kind, is_one, same_shape}
-use Rattle.bz_tree.specs.Owners.{Own, node, inside, no_empty}
-use Rattle.bz_tree.specs.Brackets.{Elem, single, bracket, Elems, no_elems, elem, elem_tokens, elems_tokens, has_for, group_of, group_with, own_items, own_of, preceding, elem_own, elems_own, is_single, is_line, IsWell, AreWell, without_lines}
-use Rattle.bz_tree.specs.Statement.{segment_of, statement_with, IsStatementOf}
+use Rattle.bz_tree.specs.Kinds.{mark_of, group_kind, is_one}
+use Rattle.bz_tree.specs.private.KindSteps.{same_shape}
+use Rattle.bz_tree.specs.Owners.{Own, node}
+use Rattle.bz_tree.specs.Cells.{inside, no_empty}
+use Rattle.bz_tree.specs.Brackets.{group_with, own_items, preceding, is_line, without_lines}
+use Rattle.bz_tree.specs.Elements.{has_for}
+use Rattle.bz_tree.specs.Elements.{group_of}
+use Rattle.bz_tree.specs.Elements.{Elem, single, bracket, Elems, no_elems, elem, elem_tokens, elems_tokens, own_of, elem_own, elems_own, is_single, IsWell, AreWell}
+use Rattle.bz_tree.specs.Statement.{statement_with, IsStatementOf}
+use Rattle.bz_tree.specs.Elements.{segment_of}
 use Rattle.bz_tree.proofs.Trees.ByOwns.{Level, Levels, with_own, new_level, closed, next_at, next, finish, run}
 use Rattle.bz_tree.proofs.Trees.OneBracket.{inside_found}
 use Rattle.bz_tree.proofs.Trees.Complete.{after_all, top_found, statement_found}
+use Rattle.bz_tree.proofs.Trees.Nested.{of_tree}
 
 abbrev elems_of : List Elem → Elems
 elems_of [] = no_elems
@@ -234,7 +241,7 @@ run_found (t ∷ ts) = λ top outer s same well wells. after_step t ts (run_foun
 pub answer_is_statement : (ts : List Placed) (s : Segment) → run (new_level None) [] ts ≡ Some s → IsStatementOf ts (statement_with ts s)
 answer_is_statement ts s same =
     let found = run_found ts (record { opening = None; elems = [] }) [] s same (tt, tt) tt in
-    record { elems = found.elems; tokens_are = found.tokens_are; well = found.well; is = ap (statement_with ts) found.is }
+    of_tree ts (statement_with ts s) (record { elems = found.elems; tokens_are = found.tokens_are; well = found.well; is = ap (statement_with ts) found.is })
 
 -- and the only one
 pub answer_is_only : (ts : List Placed) (s : Segment) → run (new_level None) [] ts ≡ Some s → (t : Statement) → IsStatementOf ts t → statement_with ts s ≡ t

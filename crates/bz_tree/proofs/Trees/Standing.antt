@@ -1,11 +1,12 @@
 -- The tokens of a text stand in it at their places.
-use Rattle.std.proofs.Common.{◌≡◌, ℕ, ◌+◌, ◌<◌, ◌^◌, ◌==◌, List, [], ◌∷◌, ◌++◌, count_by, Bool, true, false, ◌&&◌, ◌||◌, cond, Option, Some, None, refl, sym, ap, subst, ◌∙◌, arith, append_assoc, append-nil, inl, inr}
+use Rattle.std.proofs.Common.{◌≡◌, ℕ, ◌+◌, ◌<◌, ◌^◌, ◌==◌, List, [], ◌∷◌, ◌++◌, count_by, Bool, true, false, ◌&&◌, cond, Option, Some, None, refl, sym, ap, subst, ◌∙◌, arith, append_assoc, append-nil}
 use Rattle.std.specs.Prelude.{codes, is_some}
 use Rattle.std.specs.Option.{option_or}
 use Rattle.std.specs.Str.{bytes_eq}
-use Rattle.std.proofs.lemmas.Bool.{false≢true, and_parts, or_cases}
+use Rattle.std.proofs.lemmas.Bool.{false≢true, and_parts}
 use Rattle.std.proofs.lemmas.Bool.Decides.{nat_tests}
 use Rattle.std.proofs.lemmas.Slice.Eq.{bytes_eq-Decides}
+use Rattle.bz_token.proofs.Units.{gap_step}
 use Rattle.bz_token.specs.declared.token.Kind.{Kind}
 use Rattle.bz_token.specs.declared.token.Kind.TheVariants.{Keyword, Operator, Newline}
 use Rattle.bz_token.specs.Blocks.{opener_of}
@@ -13,7 +14,7 @@ use Rattle.bz_token.specs.declared.cutter.block.Opener.TheVariants.{Def, For, If
 use Rattle.bz_token.specs.Places.{Placed, line_at}
 use Rattle.bz_token.specs.Lexical.{is_text}
 use Rattle.bz_token.specs.Brackets.{is_inside, open_after_token}
-use Rattle.bz_token.specs.Reading.{is_white, is_gap, continues_gap, Piece, IsReading, token_of, tokens_of, AreTokensOf}
+use Rattle.bz_token.specs.Reading.{is_gap, Piece, IsReading, token_of, tokens_of, AreTokensOf}
 use Rattle.bz_tree.specs.Kinds.{operator_mark, kind_mark, mark_of}
 use Rattle.bz_tree.specs.Brackets.{is_line, without_lines}
 use Rattle.std.specs.List.{last_or as last_of}
@@ -24,6 +25,8 @@ use Rattle.bz_token.proofs.Progress.{newlines, newlines-append}
 use Rattle.bz_tree.proofs.Trees.LastToken.{last_or}
 use Rattle.bz_tree.proofs.Trees.Sound.{none_is_some, some_injective}
 use Rattle.bz_token.specs.Common.{first_of}
+use Rattle.bz_token.specs.Pieces.{is_white}
+use Rattle.bz_token.specs.private.Gaps.{continues_gap}
 
 -- each token ends on a line of the text
 ends_in : (first : ℕ) (ps : List Piece) (depth : ℕ) (before lines opened bs rest : List ℕ) → IsReading depth opened ps rest bs → first + newlines (before ++ bs) < 2 ^ 64 → EndsFit (tokens_of first before lines ps)
@@ -57,7 +60,7 @@ gap_byte false inside b bs is h = slash_ascii b (and_parts (b == 92) (continues_
 
 gap_front : (inside : Bool) (gap : List ℕ) → is_gap inside gap ≡ true → IsAsciiFront gap
 gap_front inside [] h = tt
-gap_front inside (b ∷ bs) h = gap_byte (is_white inside b) inside b bs refl h
+gap_front inside (b ∷ bs) h = gap_byte (is_white inside b) inside b bs refl (sym (gap_step inside b bs) ∙ h)
 
 -- only a newline is one
 operator_no_line : (t : List ℕ) → is_line (operator_mark t) ≡ false

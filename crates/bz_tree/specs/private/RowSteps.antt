@@ -26,11 +26,12 @@ use Rattle.bz_tree.specs.declared.row.spot.Read.{Read}
 use Rattle.bz_tree.specs.declared.row.spot.Spot.{Spot}
 use Rattle.bz_tree.specs.declared.row.rows.RowWalk.{RowWalk}
 use Rattle.bz_tree.specs.declared.row.Row.{Row}
-use Rattle.bz_tree.specs.Kinds.{mark_of, kind_after, is_for_at, group_kind, is_one, same_shape, is_operator_at}
+use Rattle.bz_tree.specs.Kinds.{mark_of, group_kind, is_one}
 use Rattle.bz_tree.specs.Brackets.{is_paren, end_line}
 use Rattle.bz_tree.specs.Blocks.{is_block_word}
 use Rattle.bz_tree.specs.private.Productions.{is_assignment}
-use Rattle.bz_tree.specs.Statement.{is_ident, is_call}
+use Rattle.bz_tree.specs.Tree.{is_call}
+use Rattle.bz_tree.specs.private.KindSteps.{is_ident, kind_after, is_for_at, same_shape, is_operator_at}
 use Rattle.bz_tree.specs.Rows.{RowPart, a_token, opening, closing, segment_end, above, beside, part_view}
 use Rattle.bz_tree.specs.private.Machine.{next, begin, later, may_end, group_role, kind_role}
 use Rattle.bz_tree.specs.private.Steps.{shape_of}

@@ -18,10 +18,13 @@ use Rattle.bz_token.specs.Places.{Placed}
 use Rattle.bz_tree.specs.Tree.{Item, Segment}
 use Rattle.bz_tree.specs.Comments.{beside as texts_of}
 use Rattle.bz_tree.specs.View.{text_of, texts, node_view, seg_view}
-use Rattle.bz_tree.specs.Kinds.{mark_of, is_one, group_kind, same_shape}
-use Rattle.bz_tree.specs.Owners.{Own, node, comma, comment, Last, no_token, end_of_node, end_of_comma, is_on, Inside}
-use Rattle.bz_tree.specs.Brackets.{leaf_of, own_of, preceding, is_for_item, group_with}
-use Rattle.bz_tree.specs.Statement.{segment_with}
+use Rattle.bz_tree.specs.Kinds.{mark_of, is_one, group_kind}
+use Rattle.bz_tree.specs.private.KindSteps.{same_shape}
+use Rattle.bz_tree.specs.Owners.{Own, node, comma, comment, Inside}
+use Rattle.bz_tree.specs.Cells.{Last, no_token, end_of_node, end_of_comma, is_on}
+use Rattle.bz_tree.specs.Brackets.{leaf_of, preceding, is_for_item, group_with}
+use Rattle.bz_tree.specs.Elements.{own_of}
+use Rattle.bz_tree.specs.Elements.{segment_with}
 use Rattle.bz_token.specs.Common.{is_filled}
 
 -- One bracket: the segments that are done, and of the segment here its nodes, the comments before its last node, its suffix so far, the comments after that.

@@ -6,7 +6,7 @@ ghost use Rattle.bz_token.specs.Places.{placed};
 ghost use Rattle.bz_tree.specs.View.{texts};
 ghost use Rattle.bz_tree.specs.Borrowed.{owned_in};
 ghost use Rattle.bz_tree.specs.Kinds.{mark_of};
-ghost use Rattle.bz_tree.specs.Blocks.{is_block_word, is_colon, indented, block_indent, has_colon, header_line, logical_lines, is_block, above};
+ghost use Rattle.bz_tree.specs.Blocks.{is_block_word, is_colon, indented, block_indent, has_header_colon, is_block, above};
 ghost use Rattle.bz_tree.specs.Statement.{last_token};
 
 use crate::tree::kinds::{Mark, mark_of};
@@ -81,7 +81,7 @@ pub(crate) fn block_indent(alloc: Global, tokens: &[Token<'_>]) -> Result<Option
 
 // Whether `:` stands outside brackets in the header line.
 fn has_header_colon(tokens: &[Token<'_>]) -> bool
-    ensures { result ≡ has_colon 0 (header_line (logical_lines (map placed tokens.now))) }
+    ensures { result ≡ has_header_colon (map placed tokens.now) }
 {
     let mut depth = 0;
     let mut inside = false;

@@ -6,7 +6,9 @@ ghost use Rattle.bz_tree.specs.private.BorrowedSteps.{nodes_owned};
 ghost use Rattle.bz_tree.specs.Places.{seg_spelling};
 ghost use Rattle.bz_tree.specs.private.PlacedSteps.{nodes_spelling};
 ghost use Rattle.bz_tree.specs.View.{node_view, nodes_view, seg_view};
-ghost use Rattle.bz_tree.specs.Statement.{is_rule, is_call, rule_call, with_rule_call, is_assign, class_of};
+ghost use Rattle.bz_tree.specs.Statement.{is_assign, class_of};
+ghost use Rattle.bz_tree.specs.Elements.{rule_call, with_rule_call};
+ghost use Rattle.bz_tree.specs.Tree.{is_rule, is_call};
 ghost use Rattle.std.specs.List.{list_any};
 ghost use Rattle.bz_tree.specs.private.RowSteps.{named, called};
 

@@ -2,7 +2,8 @@
 
 ghost use Rattle.std.specs.Prelude.{◌≡◌, false, Some};
 ghost use Rattle.bz_token.specs.Places.{placed};
-ghost use Rattle.bz_tree.specs.Kinds.{mark_of, operator_mark, kind_after, is_for_at, group_kind, is_one, same_shape};
+ghost use Rattle.bz_tree.specs.Kinds.{mark_of, operator_mark, group_kind, is_one};
+ghost use Rattle.bz_tree.specs.private.KindSteps.{kind_after, is_for_at, same_shape};
 ghost use Rattle.bz_tree.specs.private.Steps.{shape_of, as_comprehension};
 
 use crate::tree::GroupKind;

@@ -1,5 +1,5 @@
 use Rattle.std.proofs.Common.{◌≡◌, true, get_or, arith, rules}
-use Rattle.bz_token.specs.Pieces.{is_quote}
+use Rattle.bz_token.specs.Strings.{is_quote}
 use Rattle.bz_attribute.proofs.LiteralEnds.{literal_ends_apart}
 use Rattle.bz_attribute.proofs.apart.literal_apart.Goals as goal
 

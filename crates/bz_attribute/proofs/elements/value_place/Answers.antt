@@ -9,4 +9,4 @@ returns-clause-some c = λ s r h.
     let ps = map part_view c.args.parts.now in
     let at = c.in_ok-at.at in
     let found = c.in_ok-at.ensures.found s r h in
-    value_there c.args.name.now s r ps at c.min.result h found (omega (arith, c.min.ensures, value_within c.args.name.now s r ps at h found, length-map c.args.parts.now part_view))
+    value_there c.args.name.now s r ps at c.min.result h found (omega (arith, c.min.ensures, c.value_at.ensures, value_within c.args.name.now s r ps at h found, length-map c.args.parts.now part_view))

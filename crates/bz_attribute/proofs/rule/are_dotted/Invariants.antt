@@ -1,6 +1,6 @@
 use Rattle.std.proofs.Common.{◌≡◌, length, true}
 use Rattle.bz_tree.specs.View.{nodes_view}
-use Rattle.bz_attribute.specs.Rules.{dotted}
+use Rattle.bz_attribute.specs.private.RuleSteps.{dotted}
 use Rattle.bz_attribute.proofs.rule.are_dotted.Given as goal
 
 abbrev pub invariant-loop-left : goal.invariant-loop-left

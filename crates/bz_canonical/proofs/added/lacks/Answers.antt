@@ -1,5 +1,5 @@
 use Rattle.std.proofs.Common.{◌∷◌, ◌∙◌, true, subst, sym}
-use Rattle.bz_canonical.specs.private.Rewritten.{IsHeadRead}
+use Rattle.bz_canonical.specs.private.Arguments.{IsHeadRead}
 use Rattle.bz_canonical.proofs.AddedElements.{others_more, others_none}
 use Rattle.bz_canonical.proofs.ListLines.{value_lacks}
 use Rattle.bz_canonical.proofs.added.lacks.Goals as goal

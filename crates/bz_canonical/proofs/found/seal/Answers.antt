@@ -1,4 +1,4 @@
-use Rattle.std.proofs.Common.{◌∙◌, ap, sym, drop, take, length, map, false, ◌-◌}
+use Rattle.std.proofs.Common.{◌∙◌, ap, sym, drop, take, length, map, ◌-◌}
 use Rattle.std.proofs.lemmas.List.{take_rest}
 use Rattle.std.proofs.lemmas.Option.{IfSome_then}
 use Rattle.std.proofs.lemmas.Result.{IfOk-weaker}
@@ -6,12 +6,13 @@ use Rattle.bz_tree.specs.Rows.{part_view, segs_parts}
 use Rattle.bz_tree.specs.Tree.{segs_of}
 use Rattle.bz_canonical.specs.SealedRules.{are_asked, count_sealed}
 use Rattle.bz_canonical.specs.Spans.{kept}
+use Rattle.std.specs.Prelude.{None}
 use Rattle.bz_canonical.proofs.FoundRules.{none_asked, others_cut}
 use Rattle.bz_canonical.proofs.found.seal.Goals as goal
 
 pub returns-clause-row : goal.returns-clause-row
 returns-clause-row c = IfOk-weaker c.sealed_row-2.result _ _ (λ known h. IfSome_then known h (λ row told names r stands is first last.
-    let at = others_cut _ names r stands c.args.found.chunk.now c.args.found.rule.written.now c.args.found.rule.spans.now (record { from = 0; to = 0; start = 0; comma = 0; end = 0; asked = false }) c.in-len1-up.len_at_least is in
+    let at = others_cut _ names r stands c.args.found.chunk.now c.args.found.rule.written.now c.args.found.rule.spans.now (record { from = 0; to = 0; start = 0; comma = 0; end = 0; named = None }) c.in-len1-up.len_at_least is in
     let read = (rw c.in-Some.is at c.in_ok-read.ensures) names at.from at.start r.args at.stands at.after at.are at.text at.reads in
     let asked = c.in-Some-asked_parts.ensures _ (ap (map part_view) c.deref.ensures.value ∙ read) in
     told names r stands is.spanned (asked ∙ ap (λ ss. segs_parts (segs_of (kept (are_asked ss) r.args))) (take_rest c.args.found.rule.spans.now 1)) first last)) c.sealed_row-2.ensures

@@ -1,5 +1,5 @@
 use Rattle.std.proofs.Common.{◌∙◌, sym, subst}
-use Rattle.bz_canonical.specs.private.Rewritten.{IsSingleFront}
+use Rattle.bz_canonical.specs.private.Strings.{IsSingleFront}
 use Rattle.bz_canonical.proofs.SingleStrings.{single_front}
 use Rattle.bz_canonical.proofs.front.read_single_string.Goals as goal
 

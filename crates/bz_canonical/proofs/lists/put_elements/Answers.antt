@@ -1,7 +1,7 @@
 use Rattle.std.proofs.Common.{◌≡◌, ◌++◌, ℕ, List, true, false}
 use Rattle.std.specs.Prelude.{Bool, IfSome}
 use Rattle.std.specs.Bool.{then_some}
-use Rattle.bz_canonical.specs.private.Rewritten.{AreElementsRead, element_written}
+use Rattle.bz_canonical.specs.private.Elements.{AreElementsRead, element_written}
 use Rattle.bz_canonical.proofs.ElementLists.{elements_read, passed_first, passed_others, put_two}
 use Rattle.bz_canonical.proofs.lists.put_elements.Goals as goal
 

@@ -1,5 +1,5 @@
 use Rattle.std.proofs.Common.{◌≡◌, ◌++◌, ℕ, List, true}
-use Rattle.bz_canonical.specs.private.Rewritten.{ArePassed}
+use Rattle.bz_canonical.specs.private.Elements.{ArePassed}
 use Rattle.bz_canonical.proofs.lists.put_elements.Given as goal
 
 abbrev pub invariant-loop : goal.invariant-loop

@@ -1,6 +1,7 @@
 use Rattle.std.proofs.Common.{◌≡◌, ◌++◌, ◌∷◌, [], ◌∙◌, ℕ, List, ap, refl, subst, sym, true}
 use Rattle.std.specs.Prelude.{codes, IfSome}
-use Rattle.bz_canonical.specs.private.Rewritten.{AreElementsRead, IsListRead, spelling}
+use Rattle.bz_canonical.specs.private.Elements.{AreElementsRead, IsListRead}
+use Rattle.bz_canonical.specs.private.Strings.{spelling}
 use Rattle.bz_canonical.proofs.ElementLists.{list_broken, list_of_one, put_three}
 use Rattle.bz_canonical.proofs.lists.put_list.Goals as goal
 

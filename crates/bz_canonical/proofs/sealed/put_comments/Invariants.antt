@@ -1,7 +1,7 @@
 use Rattle.std.proofs.Common.{◌≡◌, ◌==◌, ◌++◌, ℕ, List, false, map}
 use denote.Text.{Utf8}
 use denote.Shadow.{shadow}
-use Rattle.bz_token.specs.Lexical.{begins}
+use Rattle.bz_token.specs.Common.{begins}
 use Rattle.bz_tree.specs.Rows.{above, part_view}
 use Rattle.bz_layout_laws.specs.Legible.{AreComments}
 use Rattle.bz_canonical.specs.SealedRules.{IsLevel, comment_rows}

@@ -1,5 +1,5 @@
 use Rattle.bz_canonical.proofs.Pendings.{pend_more}
-use Rattle.bz_canonical.proofs.PutArguments.{value_read}
+use Rattle.bz_canonical.proofs.ReadArguments.{value_read}
 use Rattle.bz_canonical.proofs.spans.note_value.Goals as goal
 
 pub returns-in-Some : goal.returns-in-Some

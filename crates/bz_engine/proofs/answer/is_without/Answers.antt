@@ -1,7 +1,7 @@
 use Rattle.std.proofs.Common.{◌≡◌, ℕ, List, length, arith, subst, sym, tests}
 use Rattle.std.specs.Prelude.{Option, IfSome, option_map}
 use Rattle.bz_canonical.specs.Canonical.{HasPlace, between}
-use Rattle.bz_canonical.specs.declared.chunk.ArgumentPlace.{ArgumentPlace}
+use Rattle.bz_canonical.specs.declared.place.ArgumentPlace.{ArgumentPlace}
 use Rattle.bz_engine.specs.private.Found.{IsWithout}
 use Rattle.bz_engine.proofs.CanonicalChunks.{same_bytes}
 use Rattle.bz_engine.proofs.TextAnswers.{no_argument}

@@ -1,16 +1,10 @@
 use Rattle.std.proofs.Common.{ℕ, List, Bor, subst}
 use Rattle.std.specs.Prelude.{Option, IfSome, option_map}
-use Rattle.bz_canonical.specs.Canonical.{HasName, HasPlace, IsNameless, between}
-use Rattle.bz_canonical.specs.declared.chunk.ArgumentPlace.{ArgumentPlace}
+use Rattle.bz_canonical.specs.Canonical.{HasName, IsNameless}
 use Rattle.bz_engine.proofs.answer.marks_found.Goals as goal
 
 pub returns-in-Some : goal.returns-in-Some
 returns-in-Some c = λ marked depth s is. c.marks_name.ensures marked s (subst (λ (o : Option (Bor (List ℕ))). HasName (option_map (λ name. name.now) o) s) c.in-Some.is is.named)
-
-pub returns-in-Some-place : goal.returns-in-Some-place
-returns-in-Some-place c = λ marked depth s is.
-    let has = subst (λ (o : Option ArgumentPlace). IfSome (option_map between o) (HasPlace depth c.args.found.now.attr.now s)) c.in-Some-place.is is.has in
-    c.marks_rules-in-Some-place.ensures marked s has.rule has.rule_is
 
 pub returns-in-Some-kind : goal.returns-in-Some-kind
 returns-in-Some-kind c = λ marked depth s is.

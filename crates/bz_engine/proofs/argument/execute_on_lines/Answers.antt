@@ -1,7 +1,6 @@
 use Rattle.std.proofs.Common.{◌≡◌, length, arith, subst, sym, tests}
-use Rattle.std.specs.Prelude.{string_bytes}
 use Rattle.bz_engine.specs.private.ArgumentEdits.{AddsArgument}
-use Rattle.bz_engine.proofs.ArgumentAnswers.{adds_to_none, edited_of}
+use Rattle.bz_engine.proofs.ArgumentAnswers.{adds_to_none}
 use Rattle.bz_engine.proofs.argument.execute_on_lines.Goals as goal
 
 pub returns-then-branch : goal.returns-then-branch
@@ -9,8 +8,3 @@ returns-then-branch c =
     let none : length c.args.lines.now ≡ 0 = grind (arith, tests, c.if-is_empty.true, c.is_empty.ensures) in
     adds_to_none c.args.script.max_depth c.args.command.now c.args.script.home.now c.args.lines.now c.as_slice-then-branch.result.now none
     (subst (AddsArgument c.args.command.now) (sym c.as_slice-then-branch.ensures.value) (c.in_ok-put_new.ensures c.if-branch.true))
-
-pub returns : goal.returns
-returns c =
-    edited_of c.args.script.max_depth c.args.command.now c.args.script.home.now c.args.lines.now (string_bytes c.put_small_rule.new.text)
-    c.in_ok-put_small_rule.ensures c.execute_on_small_rule.result c.execute_on_small_rule.ensures

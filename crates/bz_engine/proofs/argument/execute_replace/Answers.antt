@@ -2,10 +2,10 @@ use Rattle.bz_canonical.specs.Canonical.{read_alone}
 use Rattle.bz_engine.proofs.ArgumentAnswers.{lacking_is_not_replaced, replaces_in_list}
 use Rattle.bz_engine.proofs.argument.execute_replace.Goals as goal
 
-pub returns-then-is_short_without : goal.returns-then-is_short_without
-returns-then-is_short_without c =
+pub returns-then-lacks_in_few_lines : goal.returns-then-lacks_in_few_lines
+returns-then-lacks_in_few_lines c =
     let alone = read_alone c.args.script.max_depth c.args.script.home.now c.args.lines.now in
-    lacking_is_not_replaced alone c.args.replaced c.args.written.now.items c.args.written.now.items (c.is_short_without.ensures c.if-is_short_without.true)
+    lacking_is_not_replaced alone c.args.replaced c.args.written.now.items c.args.written.now.items (c.lacks_in_few_lines.ensures c.if-lacks_in_few_lines.true)
 
 pub returns : goal.returns
 returns c =

@@ -1,7 +1,7 @@
 use Rattle.std.proofs.Common.{◌≡◌, ◌∷◌, ◌∙◌, [], ap, rules}
 use Rattle.std.specs.Prelude.{codes}
-use Rattle.bz_label.specs.declared.arguments.Field.{Field}
-use Rattle.bz_label.specs.declared.arguments.Field.TheVariants.{ValueOf}
+use Rattle.bz_rule.specs.declared.commands.field.Field.{Field}
+use Rattle.bz_rule.specs.declared.commands.field.Field.TheVariants.{ValueOf}
 use Rattle.bz_engine.proofs.TextFailures.{one_field}
 use Rattle.bz_engine.proofs.failure.is_name.Goals as goal
 

@@ -2,7 +2,7 @@ use Rattle.std.proofs.Common.{ℕ, List, [], true, refl, ◌∙◌, sym, ap, sub
 use Rattle.std.specs.Prelude.{Option, None, Some, IfSome, option_map}
 use Rattle.bz_attribute.specs.Effects.{with_args}
 use Rattle.bz_canonical.specs.Canonical.{HasPlace, between}
-use Rattle.bz_canonical.specs.declared.chunk.ArgumentPlace.{ArgumentPlace}
+use Rattle.bz_canonical.specs.declared.place.ArgumentPlace.{ArgumentPlace}
 use Rattle.bz_rule.specs.Commands.{args_after}
 use Rattle.bz_passes.specs.Exchange.{Fits}
 use Rattle.bz_engine.specs.Progress.{Progress}

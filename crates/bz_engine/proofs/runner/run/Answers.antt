@@ -2,7 +2,7 @@ use Rattle.std.proofs.Common.{◌≡◌, ◌+◌, ◌-◌, ◌*◌, ◌<◌, ◌
 use Rattle.std.specs.Prelude.{IsErrAnd, Ok, Err}
 use Rattle.std.proofs.lemmas.Result.{err_from_is_err_and}
 use Rattle.bz_engine.specs.declared.run_fault.RunFault.{RunFault}
-use Rattle.bz_engine.specs.declared.run_fault.RunFault.TheVariants.{OutOfMemory, InputTooLong, StatementTooLong, Stopped, ReadFailed, WriteFailed}
+use Rattle.bz_engine.specs.declared.run_fault.RunFault.TheVariants.{OutOfMemory, InputTooLong, Stopped, ReadFailed, WriteFailed}
 use Rattle.bz_engine.specs.declared.session.Step.TheVariants.{More, End}
 use Rattle.bz_engine.specs.Outcome.{run_with, told_by}
 use Rattle.bz_engine.specs.SessionValue.{HasDone, at_start, told_at}
@@ -11,7 +11,7 @@ use Rattle.bz_devices.proofs.PassedOn.{err_is, passed_on, not_passed_on}
 use Rattle.bz_memory.specs.NoMemory.{no_memory}
 use Rattle.bz_devices.proofs.ReadOn.{rises_from, read_nothing}
 use Rattle.bz_engine.proofs.Faults.{memory_alone}
-use Rattle.bz_engine.proofs.Cut.{BeginsAll, fault_begins, fault_reads, ended_begins, nothing_begins, too_long_in, one_needed_there, one_more_fits, ends_done, stops_unread, stops_in_time}
+use Rattle.bz_engine.proofs.Cut.{BeginsAll, fault_begins, fault_reads, ended_begins, nothing_begins, one_needed_there, one_more_fits, ends_done, stops_unread, stops_in_time}
 use Rattle.bz_engine.proofs.NeededReads.{no_reads}
 use Rattle.bz_engine.proofs.Runs.{started, shorter, outcome_is, ends_after, reads_for, where_ok, where_is, where_memory, ok_is_no_err}
 use Rattle.bz_engine.proofs.SessionSteps.{did_as}
@@ -185,18 +185,6 @@ returns-in-End-clause-devices g c =
     let step = c.step.ensures.steps inv.goes in
     (inv.pieces ++ step.read, inv.text ++ step.shown, g.met.S.Source.gave_more _ _ _ _ _ inv.gave step.gave, g.met.W.Sink.took_more _ _ _ _ _ inv.took step.took)
 
-pub returns-in_err-step-clause-statement_too_long : goal.returns-in_err-step-clause-statement_too_long
-returns-in_err-step-clause-statement_too_long g c line told =
-    let inv = c.loop-session.invariant in
-    let same : (let fault : RunFault = StatementTooLong line in fault) ≡ c.in_err-step.field-0.0 = subst (λ r. IsErrAnd r (λ e. e ≡ c.in_err-step.field-0.0)) told c.from_residual-in_err-step.ensures.1 in
-    let step = c.step.ensures.steps inv.goes in
-    let left = did_as step (Err (StatementTooLong line)) (c.in_err-step.was ∙ ap Err (sym same)) in (
-      inv.pieces ++ step.read,
-      g.met.S.Source.gave_more _ _ _ _ _ inv.gave step.gave,
-      too_long_in c.loop-session.session c.step.new.self _ c.args.options.max_statement line inv.pieces inv.cs step.read inv.text inv.done left.read_ahead
-          (ap (λ o. o.max_statement) inv.options) left.tells.0 left.tells.1,
-    )
-
 pub returns-in_err-session-clause-steady : goal.returns-in_err-session-clause-steady
 returns-in_err-session-clause-steady g c = (λ _. refl, λ _. refl)
 
@@ -224,11 +212,6 @@ pub returns-in-End-clause-too_long : goal.returns-in-End-clause-too_long
 returns-in-End-clause-too_long g c told =
     let end = did_as (c.step.ensures.steps c.loop-session.invariant.goes) (Ok End) (c.in_ok-step.was ∙ ap Ok c.in-End.is) in
     memory_alone c.finish.result InputTooLong (c.finish.ensures.memory end.end end.ended) refl told
-
-pub returns-in-End-clause-statement_too_long : goal.returns-in-End-clause-statement_too_long
-returns-in-End-clause-statement_too_long g c line told =
-    let end = did_as (c.step.ensures.steps c.loop-session.invariant.goes) (Ok End) (c.in_ok-step.was ∙ ap Ok c.in-End.is) in
-    memory_alone c.finish.result (StatementTooLong line) (c.finish.ensures.memory end.end end.ended) refl told
 
 pub returns-in-End-clause-read_failed : goal.returns-in-End-clause-read_failed
 returns-in-End-clause-read_failed g c told =

@@ -1,5 +1,6 @@
 use Rattle.std.proofs.Common.{◌∙◌}
-use Rattle.bz_label.proofs.Literals.{opened_other, opened_raw, quoted_after, quoted_here}
+use Rattle.bz_label.proofs.Literals.{quoted_after, quoted_here}
+use Rattle.bz_label.proofs.ValueForms.{opened_other, opened_raw}
 use Rattle.bz_label.proofs.Opened.{stands_after}
 use Rattle.bz_label.proofs.literal.open.Goals as goal
 

@@ -1,6 +1,5 @@
 use Rattle.std.proofs.Common.{◌≡◌, ◌||◌, ◌++◌, true, take, drop}
-use Rattle.bz_passes.specs.Passes.{with_mark}
-use Rattle.bz_passes.specs.Exchange.{slot_after_commands, logs_alone, logs_and, some_of_commands_alone}
+use Rattle.bz_passes.specs.Exchange.{slot_after_commands, logs_alone, logs_and, some_of_commands_alone, with_mark}
 use Rattle.bz_passes.proofs.script.run_commands.Given as goal
 
 abbrev pub invariant-loop-i : goal.invariant-loop-i

@@ -25,7 +25,7 @@ pub returns-then-eq : goal.returns-then-eq
 returns-then-eq g c =
     let shown = c.edit_shown.ensures in
     record {
-      files = left_alone g.D.Folder.did g.D.Folder.leads g.D.File.Source.gave c.args.flags.now.stdout c.args.asked g.met.D.Folder.did_nothing c.args.devices.now.draft.folder _;
+      files = left_alone g.D.Folder.did g.D.Folder.leads g.D.File.Source.gave c.args.flags.now.stdout c.args.job g.met.D.Folder.did_nothing c.args.devices.now.draft.folder _;
       input = refl;
       account = record {
         account = shown.0;
@@ -38,14 +38,14 @@ returns-then-eq g c =
 
 pub returns-in-Ok-clause-files : goal.returns-in-Ok-clause-files
 returns-in-Ok-clause-files g c = record {
-  safe = of_file g.D.Folder.did g.D.Folder.leads g.D.File.Source.gave c.args.asked _ _ (file_of g.D.Folder.leads g.D.Folder.absent _ c.args.asked.home _ c.args.opened c.requires) _ _ c.edit_file.ensures.safe;
-  idle = λ three. c.in-Ok.ensures.idle (c.in-Ok.ensures.edited.replaced_is ∙ three_unkept c.args.asked.keep_going c.in-Ok.report (sym c.status.ensures ∙ three));
+  safe = of_file g.D.Folder.did g.D.Folder.leads g.D.File.Source.gave c.args.job _ _ (file_of g.D.Folder.leads g.D.Folder.absent _ c.args.job.home _ c.args.opened c.requires) _ _ c.edit_file.ensures.safe;
+  idle = λ three. c.in-Ok.ensures.idle (c.in-Ok.ensures.edited.replaced_is ∙ three_unkept c.args.job.keep_going c.in-Ok.report (sym c.status.ensures ∙ three));
   shown = λ is. absurd (false≢true (sym (other_kept _ c.purpose_of.result c.if-eq.ensures c.purpose_of.ensures) ∙ is));
 }
 
 pub returns-in-Ok-clause-account : goal.returns-in-Ok-clause-account
 returns-in-Ok-clause-account g c =
-    let put = put_as FileFault g.D.Folder.did g.D.File.Source.gave c.args.asked c.args.devices.now.draft.folder c.edit_file.new.draft.folder c.args.opened c.in-Ok.report c.in-Ok.replaced
+    let put = put_as FileFault g.D.Folder.did g.D.File.Source.gave c.args.job c.args.devices.now.draft.folder c.edit_file.new.draft.folder c.args.opened c.in-Ok.report c.in-Ok.replaced
     c.in-Ok.ensures.placed c.in-Ok.ensures.edited in
     record {
       account = edited_account c.args.flags.now.quiet c.args.name.now c.args.opened put.0.text c.in-Ok.report c.in-Ok.replaced;
@@ -58,7 +58,7 @@ returns-in-Ok-clause-account g c =
 
 pub returns-in-Err-clause-files : goal.returns-in-Err-clause-files
 returns-in-Err-clause-files g c = record {
-  safe = of_file g.D.Folder.did g.D.Folder.leads g.D.File.Source.gave c.args.asked _ _ (file_of g.D.Folder.leads g.D.Folder.absent _ c.args.asked.home _ c.args.opened c.requires) _ _ c.edit_file.ensures.safe;
+  safe = of_file g.D.Folder.did g.D.Folder.leads g.D.File.Source.gave c.args.job _ _ (file_of g.D.Folder.leads g.D.Folder.absent _ c.args.job.home _ c.args.opened c.requires) _ _ c.edit_file.ensures.safe;
   idle = λ three. absurd (two_three _ c.put_file_fault.ensures.status three);
   shown = λ is. absurd (false≢true (sym (other_kept _ c.purpose_of.result c.if-eq.ensures c.purpose_of.ensures) ∙ is));
 }

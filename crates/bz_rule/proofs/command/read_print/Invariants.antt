@@ -1,7 +1,6 @@
 use Rattle.std.proofs.Common.{◌≡◌, map, true}
 use Rattle.std.specs.List.{list_all}
-use Rattle.bz_label.specs.Arguments.{is_field}
-use Rattle.bz_label.specs.Arguments.{field_of}
+use Rattle.bz_rule.specs.Print.{is_field, field_of}
 use Rattle.bz_rule.proofs.command.read_print.Given as goal
 
 abbrev pub invariant-loop-word : goal.invariant-loop-word

@@ -1,7 +1,21 @@
-use Rattle.std.proofs.Common.{rules, ap, sym, ◌∙◌}
-use Rattle.bz_tree.specs.View.{slot_view}
-use Rattle.bz_rule.proofs.Lawfulness.{failure_stays, told_of_slot, unchanged_stays}
+use Rattle.std.proofs.Common.{◌≡◌, false, rules, ap, sym, ◌∙◌}
+use Rattle.std.specs.Prelude.{is_some}
+use Rattle.bz_attribute.specs.Effects.{holds_rule}
+use Rattle.bz_attribute.specs.Rules.{rule_of}
+use Rattle.bz_tree.specs.View.{nodes_view, slot_view}
+use Rattle.bz_rule.proofs.Lawfulness.{failure_stays, no_rule_stays, told_of_slot, unchanged_stays}
+use Rattle.bz_rule.proofs.RowEdited.{told_of_none}
 use Rattle.bz_rule.proofs.slot.apply.Goals as goal
+
+pub returns-then-not-is_rule-clause-slot : goal.returns-then-not-is_rule-clause-slot
+returns-then-not-is_rule-clause-slot c =
+    let none : holds_rule (slot_view c.args.slot.now) ≡ false = ap (λ slot. holds_rule (slot_view slot)) c.in-Some.is ∙ ap (λ nodes. is_some (rule_of (nodes_view nodes))) (sym c.deref.ensures.value) ∙ sym c.is_rule.ensures ∙ c.if-not-is_rule.true in
+    sym (ap slot_view c.in-Some.is) ∙ sym (no_rule_stays c.args.command.now c.args.home.now (slot_view c.args.slot.now) none)
+
+pub returns-then-not-is_rule-clause-done : goal.returns-then-not-is_rule-clause-done
+returns-then-not-is_rule-clause-done c =
+    let none : holds_rule (slot_view c.args.slot.now) ≡ false = ap (λ slot. holds_rule (slot_view slot)) c.in-Some.is ∙ ap (λ nodes. is_some (rule_of (nodes_view nodes))) (sym c.deref.ensures.value) ∙ sym c.is_rule.ensures ∙ c.if-not-is_rule.true in
+    c.quiet-then-not-is_rule.ensures ∙ sym (told_of_none c.args.command.now c.args.home.now (slot_view c.args.slot.now) none)
 
 pub returns-then-not-done-clause-done : goal.returns-then-not-done-clause-done
 returns-then-not-done-clause-done c = search rules

@@ -1,13 +1,7 @@
-use Rattle.bz_memory.specs.NoMemory.{no_memory}
-use Rattle.std.proofs.Common.{rules, tests, arith, ◌≡◌, ◌≢◌, ◌+◌, ◌<◌, ◌^◌, ◌∙◌, [], sym, refl, ap, map, length, inr}
-use Rattle.std.proofs.lemmas.Bool.{false≢true}
-use Rattle.bz_token.specs.declared.fault.LexFault.TheVariants.{OutOfMemory}
+use Rattle.std.proofs.Common.{rules, tests, ◌≡◌, ◌∙◌, sym, refl, ap, map, length}
 use Rattle.bz_token.specs.Places.{placed}
 use Rattle.bz_token.specs.private.LineEnds.{line_end}
 use Rattle.bz_token.proofs.LinesRead.{started, start_within, joined, front, front_within, front_boundary, shown, first_chunk_is}
-use Rattle.bz_token.proofs.Progress.{empty_from_test}
-use Rattle.bz_token.proofs.OpenLines.{text_part, last_line_left, none_left, short_front}
-use Rattle.bz_token.proofs.Stopped.{faulty_chunk, all_passed, may_begin}
 use Rattle.bz_token.proofs.chunk.first_chunk.Goals as goal
 
 pub loop-cursor-init : goal.loop-cursor-init
@@ -46,38 +40,4 @@ returns-in-Ends c =
     let a = c.in-Ok.ensures.line (search (rules, tests)) c.args.first_line c.args.text.now c.loop-cursor.line_start i in
     let told = ap (λ ts. line_end (map placed ts)) (sym c.tokens_from.ensures) ∙ sym c.line_end.ensures ∙ c.in-Ends.is in
     let f = front _ _ _ _ _ _ a in
-    record { front = first_chunk_is _ _ _ _ _ _ _ f refl c.split_at.ensures.front c.into_bump_slice.ensures (shown _ _ _ _ _ _ a told) }
-
-pub end_line-requires : goal.end_line-requires
-end_line-requires c = (c.loop-cursor.lexer, (c.args.first_line, c.args.max_depth, c.args.text.now, [], c.loop-cursor.invariant.read, search (rules, tests, arith)))
-
-pub returns-in-Err : goal.returns-in-Err
-returns-in-Err c =
-    let i = c.loop-cursor.invariant in
-    let text = c.args.text.now in
-    let lexical : c.in-Err.fault ≢ OutOfMemory no_memory = search (rules, tests) in
-    record {
-      front = short_front _ _ _ c.is_open_on.result _ c.short_if.ensures
-          (λ is.
-          let at = c.is_open_on.ensures.0 is in
-          let found = c.in-Err.ensures.open_text c.args.first_line text c.loop-cursor.line_start i c.end_line.result at.0 at.1 in
-          text_part _ _ _ found.0 found.1 _ found.2 (last_line_left _ _ _ c.loop-cursor.lexer found.0 c.loop-cursor.cursor found.1 c.end_line.result i.read found.2.read c.end_line.ensures found.3))
-          (λ other. faulty_chunk _ _ text c.loop-cursor.lexer c.loop-cursor.cursor c.end_line.result c.in-Err.fault i.read c.end_line.ensures lexical
-          (c.in-Err.ensures.fault_in_line c.args.first_line text c.loop-cursor.line_start i) (λ at. false≢true (sym other ∙ c.is_open_on.ensures.1 at)));
-    }
-
-pub returns-then-not-ends : goal.returns-then-not-ends
-returns-then-not-ends c =
-    let i = c.loop-cursor.invariant in
-    let here = c.in-Ok.ensures.in_line (search (rules, tests)) c.args.first_line c.args.text.now c.loop-cursor.line_start i in
-    let fits : length c.args.text.now + 1 < 2 ^ 64 = search (rules, arith) in
-    record { front = text_part _ _ _ c.read_line.new.self c.in-Ok.passed.0 _ here (none_left _ (all_passed _ _ _ c.read_line.new.self c.in-Ok.passed.0 here.read fits (c.in-Ok.ensures.open (search (rules, tests))))) }
-
-pub returns-in-Block : goal.returns-in-Block
-returns-in-Block c =
-    let i = c.loop-cursor.invariant in
-    let a = c.in-Ok.ensures.line (search (rules, tests)) c.args.first_line c.args.text.now c.loop-cursor.line_start i in
-    record { front = inr (may_begin _ _ _ _ _ _ a (ap (λ ts. line_end (map placed ts)) (sym c.tokens_from.ensures) ∙ sym c.line_end.ensures ∙ c.in-Block.is)) }
-
-pub returns : goal.returns
-returns c = record { front = text_part _ _ _ c.loop-cursor.lexer c.loop-cursor.cursor _ c.loop-cursor.invariant (none_left _ (empty_from_test c.loop-cursor.cursor.rest.now (search (rules, tests)))) }
+    first_chunk_is _ _ _ _ _ _ _ f refl c.split_at.ensures.front c.into_bump_slice.ensures (shown _ _ _ _ _ _ a told)

@@ -1,7 +1,7 @@
 use Rattle.std.proofs.Common.{drop, arith, length-drop}
 use Rattle.std.proofs.lemmas.List.{take_rest}
 use Rattle.std.proofs.lemmas.List.Sums.{prefix_len-le-length}
-use Rattle.bz_token.specs.Lexical.{is_blank}
+use Rattle.bz_token.specs.Pieces.{is_blank}
 use Rattle.bz_token.proofs.gap.indent_len.Goals as goal
 
 pub overflow_add-result : goal.overflow_add-result

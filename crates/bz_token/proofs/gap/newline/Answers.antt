@@ -1,7 +1,7 @@
 use Rattle.std.proofs.Common.{refl, drop, arith, length-drop}
 use Rattle.std.proofs.lemmas.List.{take_rest}
 use Rattle.std.proofs.lemmas.List.Sums.{prefix_len-le-length}
-use Rattle.bz_token.specs.Lexical.{is_blank}
+use Rattle.bz_token.specs.Pieces.{is_blank}
 use Rattle.bz_token.proofs.Steps.{newline_here}
 use Rattle.bz_token.proofs.gap.newline.Goals as goal
 

@@ -1,6 +1,6 @@
 use Rattle.std.proofs.Common.{◌≡◌, ◌≤◌, ◌<◌, true, length, drop}
 use Rattle.std.specs.List.{list_all}
-use Rattle.bz_token.specs.Lexical.{is_blank}
+use Rattle.bz_token.specs.Pieces.{is_blank}
 use Rattle.bz_token.proofs.scan.trimmed_len.Given as goal
 
 abbrev pub invariant-loop-len : goal.invariant-loop-len

@@ -1,7 +1,7 @@
 use Rattle.std.proofs.Common.{◌≡◌, ◌==◌, ◌||◌, ◌∷◌, ◌+◌, ℕ, List, [], get_or, true, false, not, sym, ◌∙◌, arith, rules}
 use Rattle.std.proofs.lemmas.List.{take_more}
 use Rattle.std.proofs.lemmas.Bool.{eq-eqb}
-use Rattle.bz_token.specs.Lexical.{closing_row}
+use Rattle.bz_token.specs.Strings.{closing_row}
 use Rattle.bz_token.specs.private.Closing.{is_escaped, closes}
 use Rattle.bz_token.proofs.PlainStrings.{quote_no_newline}
 use Rattle.bz_token.proofs.Strings.{broken_off, escaped_read, quote_read, last_read, other_read, rest_on, none_on, one_line_on, no_last, next_row}

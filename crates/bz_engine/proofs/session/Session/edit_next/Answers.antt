@@ -1,33 +1,45 @@
-use Rattle.std.proofs.Common.{Bool, subst, Ok, Err}
-use Rattle.std.proofs.lemmas.Result.{err_from_is_err_and}
+use Rattle.std.proofs.Common.{◌≡◌, ◌≤◌, ◌+◌, ℕ, List, [], Option, None, Ok, arith, length, sym, ◌∙◌, ap, subst}
+use Rattle.std.specs.Prelude.{IfNone, IfSome}
+use Rattle.bz_devices.specs.Ahead.{Ahead}
 use Rattle.bz_engine.specs.Progress.{Progress}
+use Rattle.bz_engine.specs.SessionValue.{SessionValue, IsReady}
+use Rattle.bz_engine.specs.declared.next_chunk.NextChunk.{NextChunk}
+use Rattle.bz_engine.specs.private.Edits.{DoesNothing}
 use Rattle.bz_engine.specs.private.Finds.{Finds}
-use Rattle.bz_engine.proofs.Finds.{finds_then, finds_failed}
+use Rattle.bz_engine.specs.private.NextChunks.{IsNextEdited}
+use Rattle.bz_engine.proofs.Finds.{finds_nothing}
 use Rattle.bz_engine.proofs.session.Session.edit_next.Goals as goal
 
-pub returns-in_err-read_short-clause-finds : goal.returns-in_err-read_short-clause-finds
-returns-in_err-read_short-clause-finds g c =
-    let p = err_from_is_err_and c.from_residual.result c.from_residual.ensures.1 in
-    finds_failed _ _ _ _ _ p.0 c.in_err-read_short.field-0.0 _ _ _ _ p.1 p.2
-    (subst (λ v. Finds {T = Bool} g.S.Source.gave g.S.Source.failures v.options v.progress.line c.args.source.now c.read_short.new.source v.ahead c.read_short.new.ahead (Err c.in_err-read_short.field-0.0))
-    c.self.view_is c.in_err-read_short.ensures.finds)
+-- nothing was copied
+nothing_done : (u v : SessionValue) (before between : List ℕ) (o : Option NextChunk) → (let same : SessionValue = record u { progress = v.progress } in v ≡ same)
+    → IfNone o (DoesNothing u.progress v.progress before between) → o ≡ None → (v ≡ u) × (between ≡ before)
+nothing_done u v before between o same none is =
+    let nothing = subst (λ (o : Option NextChunk). IfNone o (DoesNothing u.progress v.progress before between)) is none in
+    let goes_on : Progress → SessionValue = λ p. record u { progress = p } in
+    (same ∙ ap goes_on nothing.0, nothing.1)
 
-pub returns-clause-finds : goal.returns-clause-finds
-returns-clause-finds g c =
-    finds_then _ _ _ _ c.in_ok-read_short.field-0 _ _ _ _ _ _ _ g.met.S.Source.gave_more
-    (subst (λ v. Finds g.S.Source.gave g.S.Source.failures v.options v.progress.line c.args.source.now c.read_short.new.source v.ahead c.read_short.new.ahead (Ok c.in_ok-read_short.field-0))
-    c.self.view_is c.in_ok-read_short.ensures.finds)
-    (subst (λ v. Finds g.S.Source.gave g.S.Source.failures v.options v.progress.line c.read_short.new.source c.edit_after_one_read.new.source c.read_short.new.ahead c.edit_after_one_read.new.self.ahead c.edit_after_one_read.result)
-    c.self.view_is
-    (subst (λ (p : Progress). Finds g.S.Source.gave g.S.Source.failures c.self.inside.options p.line c.read_short.new.source c.edit_after_one_read.new.source c.read_short.new.ahead c.edit_after_one_read.new.self.ahead c.edit_after_one_read.result)
-    c.in_ok-read_short.ensures.same c.edit_after_one_read.ensures.finds))
+copied : (u v : SessionValue) → (let same : SessionValue = record u { progress = v.progress } in v ≡ same)
+    → (let there : SessionValue = record u { ahead = v.ahead; progress = v.progress } in v ≡ there)
+copied u v same =
+    let with_ahead : Ahead → SessionValue = λ a. record u { ahead = a; progress = v.progress } in
+    same ∙ ap with_ahead (sym (ap (λ x. x.ahead) same))
 
-pub returns-then-branch-clause-finds : goal.returns-then-branch-clause-finds
-returns-then-branch-clause-finds g c =
-    finds_then _ _ _ _ c.in_ok-read_short.field-0 _ _ _ _ _ _ _ g.met.S.Source.gave_more
-    (subst (λ v. Finds g.S.Source.gave g.S.Source.failures v.options v.progress.line c.args.source.now c.read_short.new.source v.ahead c.read_short.new.ahead (Ok c.in_ok-read_short.field-0))
-    c.self.view_is c.in_ok-read_short.ensures.finds)
-    (subst (λ v. Finds g.S.Source.gave g.S.Source.failures v.options v.progress.line c.read_short.new.source c.edit_by_lines.new.source c.read_short.new.ahead c.edit_by_lines.new.self.ahead c.edit_by_lines.result)
-    c.self.view_is
-    (subst (λ (p : Progress). Finds g.S.Source.gave g.S.Source.failures c.self.inside.options p.line c.read_short.new.source c.edit_by_lines.new.source c.read_short.new.ahead c.edit_by_lines.new.self.ahead c.edit_by_lines.result)
-    c.in_ok-read_short.ensures.same c.edit_by_lines.ensures.finds))
+-- nothing is read of a source
+nothing_read : {S T : Type 0} (gave : S → List (List ℕ) → S → Type 0) (failures : S → ℕ) (u v : SessionValue) (source : S) (x : T) → gave source [] source
+    → u.ahead.reads ≤ u.options.max_reads → IsReady u → (let same : SessionValue = record u { progress = v.progress } in v ≡ same)
+    → Finds {T = T} gave failures u.options u.progress.line source source u.ahead v.ahead (Ok x)
+nothing_read {T = T} gave failures u v source x nothing made ready same =
+    let few : length u.ahead.bytes ≤ u.options.max_statement + 8192 = omega (arith, ready.few) in
+    subst (λ a. Finds {T = T} gave failures u.options u.progress.line source source u.ahead a (Ok x)) (sym (ap (λ x. x.ahead) same))
+    (finds_nothing gave failures u.options u.progress.line x source u.ahead nothing made few)
+
+pub returns-in-Some-clause-same : goal.returns-in-Some-clause-same
+returns-in-Some-clause-same g c = copied c.args.self.now c.copy_ahead.new.self c.copy_ahead.ensures.same
+
+pub returns-in-Some-clause-finds : goal.returns-in-Some-clause-finds
+returns-in-Some-clause-finds g c =
+    nothing_read g.S.Source.gave g.S.Source.failures c.args.self.now c.copy_ahead.new.self c.args.source.now _ (g.met.S.Source.gave_nothing _) c.requires.made c.requires.ready c.copy_ahead.ensures.same
+
+pub returns-in-Some-clause-next : goal.returns-in-Some-clause-next
+returns-in-Some-clause-next g c =
+    subst (λ (o : Option NextChunk). IfSome o (IsNextEdited c.args.self.now c.copy_ahead.new.self c.args.text.now.items c.copy_ahead.new.text.items)) c.in-Some.is c.in_ok-next.ensures.chunk

@@ -62,7 +62,7 @@ returns-then-loses_all-clause-edited c =
     let nodes = c.first_argument-argument.result.nodes in
     let first = c.first_argument-argument.ensures.argument a others (rest_seen c.args.parts.now c.args.at ∙ are) in
     let is : is_attribute a ≡ true = ap is_some (sym first.named) ∙ mapped_some _ _ ∙ c.is_none.ensures ∙ ap not c.if-is_none.false in
-    let v_is : c.min-value.result ≡ c.args.at + nodes + 2 = omega (arith, c.min-value.ensures, value_early a is nodes c.first_argument-argument.result.to _ first) in
+    let v_is : c.min-value.result ≡ c.args.at + nodes + 2 = omega (arith, c.min-value.ensures, c.value_at.ensures, value_early a is nodes c.first_argument-argument.result.to _ first) in
     let own = value_reads a is others ps c.args.at c.min-value.result nodes c.first_argument-argument.result.to _ are first v_is in
     of_keyword (means e) (literal_of e) a others _ _ _ _ _ is
     (lost (means e) (literal_of e) a others c.args.at nodes c.first_argument-argument.result.to _ ps c.make_way-then-loses_all.new.written (map part_view c.make_way-then-loses_all.new.out.items) _ _ c.in_ok-make_way-in-Strings.ensures are first
@@ -84,7 +84,7 @@ returns-in_ok-end-in-Strings-clause-edited c =
     let to = c.first_argument-argument.result.to in
     let first = c.first_argument-argument.ensures.argument a others (rest_seen c.args.parts.now c.args.at ∙ are) in
     let is : is_attribute a ≡ true = ap is_some (sym first.named) ∙ mapped_some _ _ ∙ c.is_none.ensures ∙ ap not c.if-is_none.false in
-    let v_is : c.min-value.result ≡ c.args.at + nodes + 2 = omega (arith, c.min-value.ensures, value_early a is nodes to _ first) in
+    let v_is : c.min-value.result ≡ c.args.at + nodes + 2 = omega (arith, c.min-value.ensures, c.value_at.ensures, value_early a is nodes to _ first) in
     let own = value_reads a is others ps c.args.at c.min-value.result nodes to _ are first v_is in
     let size = length-map c.args.parts.now part_view in
     of_keyword (means e) (literal_of e) a others _ _ _ _ _ is

@@ -3,7 +3,8 @@ use Rattle.bz_tree.specs.declared.row.Part.{Part}
 use Rattle.bz_tree.specs.Rows.{RowPart, part_view, segs_parts}
 use Rattle.bz_tree.specs.Tree.{Segment, segs_of}
 use Rattle.bz_attribute.specs.Effects.{argument, list_item}
-use Rattle.bz_attribute.specs.Lists.{edit_first_part, with_value}
+use Rattle.bz_attribute.specs.Lists.{with_value}
+use Rattle.bz_attribute.specs.ListWalk.{edit_first_part}
 use Rattle.bz_attribute.specs.Rules.{value}
 use Rattle.bz_attribute.proofs.Slices.{three_written}
 use Rattle.bz_rule.specs.Move.{put_in}

@@ -1,6 +1,6 @@
 use Rattle.std.proofs.Common.{◌≡◌, ◌++◌, ◌∙◌, ap, refl, subst, sym, map, option_map, string_bytes, [], ℕ, List, Bor, Option, Some}
 use Rattle.bz_tree.specs.Rows.{part_view}
-use Rattle.bz_label.specs.declared.arguments.Field.{Field}
+use Rattle.bz_rule.specs.declared.commands.field.Field.{Field}
 use Rattle.bz_attribute.specs.declared.done.Note.{Note}
 use Rattle.bz_attribute.specs.declared.done.Note.TheVariants.{Missing}
 use Rattle.bz_rule.specs.Print.{fields_of}

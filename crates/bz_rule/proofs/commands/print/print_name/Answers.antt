@@ -4,8 +4,8 @@ use Rattle.std.specs.Prelude.{codes}
 use Rattle.bz_token.specs.Common.{map_or}
 use Rattle.bz_tree.specs.Tree.{Segment, Statement}
 use Rattle.bz_label.specs.Labels.{Package}
-use Rattle.bz_label.specs.declared.arguments.Field.{Field}
-use Rattle.bz_label.specs.declared.arguments.Field.TheVariants.{ValueOf}
+use Rattle.bz_rule.specs.declared.commands.field.Field.{Field}
+use Rattle.bz_rule.specs.declared.commands.field.Field.TheVariants.{ValueOf}
 use Rattle.bz_attribute.specs.Rules.{Rule, first_named, name_in, rule_of, string_value, value}
 use Rattle.bz_attribute.specs.Texts.{home_text}
 use Rattle.bz_attribute.specs.declared.done.Done.{Done}

@@ -6,7 +6,7 @@ use Rattle.bz_attribute.proofs.EditedAt.{none_first}
 use Rattle.bz_attribute.proofs.OnlyLists.{value_slice}
 use Rattle.bz_attribute.proofs.Slices.{slice_seen}
 use Rattle.bz_rule.specs.Print.{value_text}
-use Rattle.bz_rule.proofs.PrintedFields.{one_argument, one_value}
+use Rattle.bz_rule.proofs.PrintedFields.{named_value, one_argument, one_value}
 use Rattle.bz_rule.proofs.commands.print.push_attribute.Goals as goal
 
 pub returns-in_default-value_place : goal.returns-in_default-value_place
@@ -27,3 +27,8 @@ returns c =
       ap (option_map (λ (a : Segment). value_text (value a))) v.first,
       c.in_ok-push_value.ensures (value v.arg) own,
     ))
+
+pub returns-in-Some-name : goal.returns-in-Some-name
+returns-in-Some-name c =
+    named_value c.args.env.home.now c.args.attr.now c.args.head (map part_view c.args.parts.now) _ _ c.in-Some-name.name.now (ap (option_map (λ text. text.now)) c.in-Some-name.is-0) c.in-Some-name.is-name-1
+    c.in_ok-push_word.ensures

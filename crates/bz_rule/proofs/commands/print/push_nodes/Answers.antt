@@ -1,4 +1,4 @@
-use Rattle.std.proofs.Common.{tests, map, ◌≡◌, ℕ, ◌<◌, ◌≤◌, ◌∷◌, [], ◌++◌, ◌&&◌, get_or, List, Option, Some, None, is_some, false, length, refl, ap, sym, ◌∙◌, arith, append-nil, string_bytes, subst}
+use Rattle.std.proofs.Common.{tests, map, ◌≡◌, ℕ, ◌<◌, ◌≤◌, ◌∷◌, [], ◌++◌, ◌&&◌, get_or, List, Option, Some, None, is_some, true, false, if◌then◌else◌, length, refl, ap, sym, ◌∙◌, arith, append-nil, string_bytes, subst}
 use Rattle.std.proofs.lemmas.Result.{on_ok_weaker}
 use Rattle.std.specs.List.{list_all}
 use Rattle.bz_tree.specs.declared.tree.GroupKind.TheVariants.{RuleCall}
@@ -7,10 +7,12 @@ use Rattle.bz_tree.specs.Rows.{items_parts, part_view}
 use Rattle.bz_tree.specs.Tree.{Item, items_of}
 use Rattle.bz_tree.specs.View.{node_view, nodes_view}
 use Rattle.bz_layout.specs.Layout.{flat_text}
-use Rattle.bz_attribute.specs.Lists.{is_list}
+use Rattle.bz_attribute.specs.Lists.{only_list}
+use Rattle.bz_attribute.specs.ListWalk.{is_list}
+use Rattle.bz_attribute.proofs.ListPieces.{only_more, only_one}
 use Rattle.bz_attribute.specs.Rules.{elements, string_value}
 use Rattle.bz_attribute.proofs.Mapped.{one_node}
-use Rattle.bz_rule.specs.Print.{list_text, value_text, word_form}
+use Rattle.bz_rule.specs.Print.{list_text, value_text, word_form, words_text}
 use Rattle.std.proofs.lemmas.Bool.{and_left, and_right}
 use Rattle.std.proofs.lemmas.Bool.Decides.{nat_tests}
 use Rattle.bz_rule.proofs.commands.print.push_nodes.Goals as goal
@@ -32,13 +34,23 @@ no_words : (ns : List Node) → length ns < 1 → IsFlat (nodes_view ns)
 no_words [] h = refl
 no_words (n ∷ ns) h = absurd (omega arith)
 
+flat_none : (nodes : List Item) → only_list nodes ≡ None → IsFlat nodes
+flat_none nodes h = rw h refl
+
+no_strings : (x : Item) → (is_list x && list_all (λ x0. is_some (string_value x0.nodes)) (elements x)) ≡ false → IsFlat (x ∷ [])
+no_strings x not =
+    let flat = flat_text (Some RuleCall) (x ∷ []) in
+    rw (only_one x)
+    (elim (is_list x) as (λ b. (b && list_all (λ x0. is_some (string_value x0.nodes)) (elements x)) ≡ false
+    → map_or flat (λ ss. if list_all (λ s. is_some (string_value s.nodes)) ss then words_text ss else flat) (if b then Some (elements x) else None) ≡ flat) [ true ↦ λ e. rw e refl | false ↦ λ e. refl ] not)
+
 many : (ns : List Node) → 2 ≤ length ns → IsFlat (nodes_view ns)
 many [] h = refl
 many (n ∷ []) h = absurd (omega arith)
-many (n ∷ m ∷ ns) h = refl
+many (n ∷ m ∷ ns) h = flat_none (node_view n ∷ node_view m ∷ nodes_view ns) (only_more (node_view n) (node_view m) (nodes_view ns))
 
 one : (ns : List Node) (n : Node) → 1 ≤ length ns → length ns < 2 → n ≡ get_or ns 0 n → (is_list (node_view n) && list_all (λ x0. is_some (string_value x0.nodes)) (elements (node_view n))) ≡ false → IsFlat (nodes_view ns)
-one ns n few more at not = subst (λ (xs : List Node). IsFlat (nodes_view xs)) (sym (one_node ns n few more at)) (rw not refl)
+one ns n few more at not = subst (λ (xs : List Node). IsFlat (nodes_view xs)) (sym (one_node ns n few more at)) (no_strings (node_view n) not)
 
 pub returns-in_default : goal.returns-in_default
 returns-in_default c =

@@ -1,13 +1,15 @@
-use Rattle.std.proofs.Common.{◌≡◌, ℕ, List, [], ◌∷◌, Bool, false, ◌&&◌, Option, map, refl, ap, subst, sym, ◌∙◌}
+use Rattle.std.proofs.Common.{◌≡◌, ℕ, List, [], ◌∷◌, false, Option, None, Some, is_some, map, refl, ap, subst, sym, ◌∙◌}
 use Rattle.bz_token.specs.declared.token.Kind.TheVariants.{Identifier, Integer, String}
 use Rattle.bz_tree.specs.Rows.{RowPart, part_view}
-use Rattle.bz_tree.specs.Tree.{Item, leaf, group}
+use Rattle.bz_tree.specs.Tree.{Item, Segment, leaf, group}
 use Rattle.bz_attribute.specs.Elements.{OnlyList, value_parts}
 use Rattle.bz_rule.specs.Set as spec
-use Rattle.bz_rule.specs.Set.{NewConstant, NewNumber, NewString, NewStrings, are_strings, is_value}
+use Rattle.bz_rule.specs.Set.{NewConstant, NewNumber, NewString, NewStrings, is_value}
+use Rattle.bz_rule.specs.private.Steps.{are_strings}
 use Rattle.bz_attribute.proofs.Slices.{rest_seen}
-use Rattle.bz_attribute.specs.Lists.{is_list, is_only}
-use Rattle.bz_attribute.specs.Rules.{elements}
+use Rattle.bz_attribute.specs.Lists.{only_list}
+use Rattle.bz_attribute.proofs.ListPieces.{only_more}
+use Rattle.bz_token.specs.Common.{map_or}
 use Rattle.bz_rule.specs.declared.commands.set.New.{New}
 use Rattle.bz_rule.specs.private.SetViews.{new_view}
 use Rattle.bz_rule.specs.private.ValueParts.{one_token}
@@ -25,7 +27,7 @@ two (NewNumber digits) (group k segs one_comma end) y xs = refl
 two (NewConstant name) (leaf Identifier text) y xs = refl
 two (NewConstant name) (leaf _ text) y xs = refl
 two (NewConstant name) (group k segs one_comma end) y xs = refl
-two (NewStrings words) x y xs = refl
+two (NewStrings words) x y xs = sym (ap (map_or false (are_strings words)) (only_more x y xs))
 
 token_told : (new : New) (nodes : List Item) (after : List RowPart) → ((words : _) → new ≡ New.Strings words → ⊥) → is_value (new_view new) (one_token (value_parts nodes after)) ≡ is_value (new_view new) nodes
 token_told new [] after other = refl
@@ -39,10 +41,12 @@ token_told (New.Strings words) (group k segs one_comma end ∷ []) after other =
 token_told new (group k segs one_comma end ∷ y ∷ xs) after other = two (new_view new) (group k segs one_comma end) y xs
 
 -- no list is no list of strings
-no_list_told : (words : List (List ℕ)) (nodes : List Item) → is_only is_list nodes ≡ false → false ≡ is_value (NewStrings words) nodes
-no_list_told words [] h = refl
-no_list_told words (x ∷ []) h = sym (ap (λ (b : Bool). b && are_strings words (elements x)) h)
-no_list_told words (x ∷ y ∷ xs) h = refl
+none_told : (words : List (List ℕ)) (o : Option (List Segment)) → is_some o ≡ false → false ≡ map_or false (are_strings words) o
+none_told words None h = refl
+none_told words (Some ss) h = absurd cc
+
+no_list_told : (words : List (List ℕ)) (nodes : List Item) → is_some (only_list nodes) ≡ false → false ≡ is_value (NewStrings words) nodes
+no_list_told words nodes h = none_told words (only_list nodes) h
 
 pub returns-in_default : goal.returns-in_default
 returns-in_default c = λ nodes after read list.

@@ -4,7 +4,8 @@ use Rattle.std.specs.List.{slice_split}
 use Rattle.bz_token.specs.declared.token.Kind.TheVariants.{Identifier, Operator}
 use Rattle.bz_tree.specs.Tree.{Item, items_of, leaf}
 use Rattle.bz_tree.specs.Rows.{RowPart, a_token, items_parts, part_view}
-use Rattle.bz_rule.specs.Set.{joined_by_dots, kind_items}
+use Rattle.bz_rule.specs.Set.{kind_items}
+use Rattle.bz_rule.specs.private.Steps.{joined_by_dots}
 use Rattle.bz_attribute.proofs.Slices.{one_more}
 use Rattle.bz_label.proofs.Cuts.{some_part}
 use Rattle.bz_rule.proofs.commands.set_kind.push_kind.Goals as goal

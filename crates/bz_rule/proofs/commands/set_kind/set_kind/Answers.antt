@@ -6,7 +6,8 @@ use Rattle.bz_attribute.specs.RowEdits.{replaced_at}
 use Rattle.bz_attribute.specs.Effects.{nodes_of}
 use Rattle.bz_attribute.specs.RowPlaces.{IsKindPlace}
 use Rattle.bz_attribute.specs.Rules.{Rule, kind_text, rule_of}
-use Rattle.bz_rule.specs.Set.{kind_after, kind_items, with_kind}
+use Rattle.bz_rule.specs.Set.{kind_items, with_kind}
+use Rattle.bz_rule.specs.private.Steps.{kind_after}
 use Rattle.bz_rule.proofs.commands.set_kind.set_kind.Goals as goal
 
 -- the statement with another kind

@@ -1,9 +1,8 @@
 use Rattle.std.proofs.Common.{rules, tests, arith, ◌≤◌, length, sym, [], Some, None, inr}
 use Rattle.bz_token.specs.declared.token.Kind.TheVariants.{Operator}
 use Rattle.bz_token.specs.private.Progress.{ReadsOn}
-use Rattle.bz_token.specs.private.LinesRead.{StaysInLine, IsOpenFrom, IsFaultFrom, IsFaultOfLine}
+use Rattle.bz_token.specs.private.LinesRead.{StaysInLine, IsFaultFrom}
 use Rattle.bz_token.proofs.Progress.{passed_on}
-use Rattle.bz_token.proofs.Stopped.{in_line}
 use Rattle.bz_token.proofs.LinesRead.{stays, line_read}
 use Rattle.bz_token.proofs.lexer.Lexer.read_line.Goals.{then-is_comma_here+in_ok-cursor+else-is_full-2, else-is_comma_here}
 use Rattle.bz_token.proofs.lexer.Lexer.read_line.Goals as goal
@@ -18,13 +17,6 @@ returns-in_err-next-clause-fault c =
     passed_on c.from_residual.result c.in_err-next.field-0.0 (IsFaultFrom c.args.max_depth c.args.self.now c.args.cursor) c.from_residual.ensures.1
     (λ first bytes given before. c.in_err-next.ensures.fault first bytes given (c.loop-self.invariant.read first bytes given before))
 
-pub returns-in_err-next-clause-fault_in_line : goal.returns-in_err-next-clause-fault_in_line
-returns-in_err-next-clause-fault_in_line c =
-    passed_on c.from_residual.result c.in_err-next.field-0.0 (IsFaultOfLine c.args.max_depth c.args.self.now c.args.cursor) c.from_residual.ensures.1
-    (λ first bytes start before.
-    let i = c.loop-self.invariant.line first bytes start before in
-    in_line first c.args.max_depth bytes c.loop-self.self c.loop-self.cursor start c.in_err-next.field-0.0 i (c.in_err-next.ensures.stands first bytes [] i.read))
-
 pub returns-then-eq-clause-read : goal.returns-then-eq-clause-read
 returns-then-eq-clause-read c first bytes given before = (c.in_ok-next.ensures.read first bytes given (c.loop-self.invariant.read first bytes given before)).0
 
@@ -37,17 +29,6 @@ returns-then-eq-clause-line c told first bytes start before =
 pub returns-then-is_full-clause-read : goal.returns-then-is_full-clause-read
 returns-then-is_full-clause-read c first bytes given before = (c.in_ok-next.ensures.read first bytes given (c.loop-self.invariant.read first bytes given before)).0
 
-pub returns-then-is_full-clause-in_line : goal.returns-then-is_full-clause-in_line
-returns-then-is_full-clause-in_line c told first bytes start before =
-    let i = c.loop-self.invariant.line first bytes start before in
-    let r = c.in_ok-next.ensures.read first bytes [] i.read in
-    stays first c.args.max_depth bytes c.loop-self.self c.step.new.self c.loop-self.cursor c.in_ok-next.next start c.in_ok-next.kind i r.0 r.1 (λ e. search (rules, tests))
-
-pub returns-in_err-next-clause-open_text : goal.returns-in_err-next-clause-open_text
-returns-in_err-next-clause-open_text c =
-    passed_on c.from_residual.result c.in_err-next.field-0.0 (IsOpenFrom c.args.max_depth c.args.self.now c.args.cursor) c.from_residual.ensures.1
-    (λ first bytes start before line col is. (c.loop-self.self, c.loop-self.cursor, c.loop-self.invariant.line first bytes start before, sym (c.in_err-next.ensures.open_text line col is)))
-
 pub add_comma-requires-clause-read : goal.add_comma-requires-clause-read
 add_comma-requires-clause-read c =
     let p = c.requires.places in
@@ -57,15 +38,6 @@ pub returns-then-is_full-2-clause-read : goal.returns-then-is_full-2-clause-read
 returns-then-is_full-2-clause-read c first bytes given before =
     let next = c.in_ok-next.ensures.read first bytes given (c.loop-self.invariant.read first bytes given before) in
     (c.in_ok-cursor.ensures.read first c.args.max_depth bytes given next.0).0
-
-pub returns-then-is_full-2-clause-in_line : goal.returns-then-is_full-2-clause-in_line
-returns-then-is_full-2-clause-in_line c told first bytes start before =
-    let depth = c.args.max_depth in
-    let here = c.loop-self.invariant.line first bytes start before in
-    let r = c.in_ok-next.ensures.read first bytes [] here.read in
-    let next = stays first depth bytes c.loop-self.self c.step.new.self c.loop-self.cursor c.in_ok-next.next start c.in_ok-next.kind here r.0 r.1 (λ e. search (rules, tests)) in
-    let comma = c.in_ok-cursor.ensures.read first depth bytes [] next.read in
-    stays first depth bytes c.step.new.self c.add_comma.new.self c.in_ok-next.next c.in_ok-cursor.cursor start (Some Operator) next comma.0 comma.1 (λ e. search (rules, tests))
 
 pub pass_white-cursor-requires : goal.pass_white-cursor-requires
 pass_white-cursor-requires c =

@@ -1,17 +1,12 @@
-use Rattle.std.proofs.Common.{rules, inr}
+use Rattle.std.proofs.Common.{rules}
 use Rattle.bz_token.specs.private.Scans.{opened}
 use Rattle.bz_token.proofs.Steps.{gap_of_step, token_of_step}
 use Rattle.bz_token.proofs.Progress.{refused_at}
-use Rattle.bz_token.proofs.Stopped.{stopped}
 use Rattle.bz_token.proofs.lexer.Lexer.step.Goals as goal
 
 pub returns-in-Err-clause-fault : goal.returns-in-Err-clause-fault
 returns-in-Err-clause-fault c first bytes given before =
     refused_at _ _ _ _ _ _ _ _ _ _ c.in-Err.fault before c.as_bytes-bytes.ensures.value (search rules) c.in-Err.ensures.fault
-
-pub returns-in-Err-clause-stands : goal.returns-in-Err-clause-stands
-returns-in-Err-clause-stands c first bytes given before =
-    inr (stopped _ _ _ _ _ _ _ _ _ _ c.in-Err.fault before c.as_bytes-bytes.ensures.value (search rules) c.in-Err.ensures.fault)
 
 pub pass_gap-requires-clause-gap : goal.pass_gap-requires-clause-gap
 pass_gap-requires-clause-gap c =

@@ -13,3 +13,10 @@ returns-in-Err c =
       few = λ told. absurd (false≢true told);
       fault = λ first depth text given has told. (c.in-Err.field-0, lexical, rw (← has.depth_is) (c.in-Err.ensures.fault first text given (rw (c.clear.ensures.items, append-nil given, has.depth_is) has.read)));
     }
+
+pub returns-in-Ok-clause-given : goal.returns-in-Ok-clause-given
+returns-in-Ok-clause-given c = λ first depth text given has told. record {
+  read = rw (← has.depth_is) (c.in-Ok.ensures.read first text given (rw (c.clear.ensures.items, append-nil given, has.depth_is) has.read));
+  depth_is = has.depth_is;
+  fit = has.fit;
+}

@@ -2,7 +2,7 @@ use Rattle.std.proofs.Common.{arith, ◌≡◌, ℕ, List, ◌++◌, get_or, len
 use Rattle.std.proofs.lemmas.List.{map-append}
 use Rattle.std.proofs.lemmas.Result.{IfOk-from_err}
 use Rattle.bz_tree.specs.declared.tree.Seg.{Seg, roll-Seg}
-use Rattle.bz_tree.specs.Statement.{one_segment}
+use Rattle.bz_tree.specs.Elements.{one_segment}
 use Rattle.bz_tree.specs.Tree.{Item, Segment}
 use Rattle.bz_tree.specs.View.{seg_view, text_of, texts, nodes_view}
 use Rattle.bz_tree.proofs.Trees.Views.{view-seg}

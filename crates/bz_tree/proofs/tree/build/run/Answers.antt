@@ -1,4 +1,4 @@
-use Rattle.std.proofs.Common.{◌≡◌, [], map, ap, sym, subst, ◌∙◌}
+use Rattle.std.proofs.Common.{[], map, ap, sym, subst, ◌∙◌}
 use Rattle.bz_token.specs.Places.{placed}
 use Rattle.bz_tree.specs.Places.{AreSpelled, joined}
 use Rattle.bz_tree.specs.private.Steps.{level}

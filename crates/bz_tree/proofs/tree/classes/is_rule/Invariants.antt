@@ -1,6 +1,6 @@
 use Rattle.std.proofs.Common.{◌≡◌, drop}
 use Rattle.bz_tree.specs.View.{nodes_view}
-use Rattle.bz_tree.specs.Statement.{is_rule}
+use Rattle.bz_tree.specs.Tree.{is_rule}
 use Rattle.bz_tree.proofs.Rows.RowClass.{from}
 use Rattle.bz_tree.proofs.tree.classes.is_rule.Given as goal
 

@@ -5,7 +5,7 @@ use Rattle.bz_tree.specs.declared.row.spot.Read.{Read}
 use Rattle.bz_tree.specs.declared.row.spot.SegmentCount.{SegmentCount}
 use Rattle.bz_tree.specs.declared.tree.GroupKind.{GroupKind}
 use Rattle.bz_tree.specs.declared.tree.kinds.Shape.{Shape}
-use Rattle.bz_tree.specs.Kinds.{same_shape}
+use Rattle.bz_tree.specs.private.KindSteps.{same_shape}
 use Rattle.bz_tree.specs.Rows.{RowPart, closing, part_view}
 use Rattle.bz_tree.specs.private.Steps.{shape_of}
 use Rattle.bz_tree.specs.private.RowSteps.{At, a_node, is_ended, read_group, with_node, Stand, stand, RowState, row_state, last_end, is_one_comma, close_below, close_next}

@@ -8,7 +8,7 @@ use Rattle.bz_tree.specs.declared.tree.kinds.Mark.TheVariants.{Close}
 use Rattle.bz_tree.specs.declared.tree.kinds.Shape.{Shape}
 use Rattle.bz_tree.specs.Tree.{Item, group, segs_of}
 use Rattle.bz_tree.specs.View.{segs_view, texts}
-use Rattle.bz_tree.specs.Kinds.{same_shape}
+use Rattle.bz_tree.specs.private.KindSteps.{same_shape}
 use Rattle.bz_tree.specs.Owners.{node}
 use Rattle.bz_tree.specs.Brackets.{is_paren, group_with}
 use Rattle.bz_tree.specs.private.Steps.{Level, Levels, Walked, closed, done, inside_view, level, levels, next_at, shape_of, so_far, with_own}

@@ -1,11 +1,10 @@
-use Rattle.std.proofs.Common.{arith, false, [], get_or, ◌+◌, ◌∷◌, ◌++◌, drop, map, refl, sym, ap, subst, ◌∙◌}
+use Rattle.std.proofs.Common.{arith, false, [], get_or, ◌++◌, map, refl, sym, ap, subst, ◌∙◌}
 use Rattle.std.proofs.lemmas.Grind.{common_steps}
 use Rattle.std.proofs.lemmas.List.{at_drop_all, at_drop_more}
 use Rattle.std.specs.Bool.{then_some}
 use Rattle.bz_token.specs.Places.{placed}
 use Rattle.bz_token.specs.declared.token.Kind.TheVariants.{Identifier}
 use Rattle.bz_token.specs.declared.token.Token.{Token}
-use Rattle.bz_tree.specs.Kinds.{mark_of}
 use Rattle.bz_tree.specs.private.Steps.{has_one, state}
 use Rattle.bz_tree.specs.private.PlacedSteps.{AreSpelledFrom, frame_spelling, opened, state_spelling, walk_spelling}
 use Rattle.bz_tree.specs.Places.{joined}

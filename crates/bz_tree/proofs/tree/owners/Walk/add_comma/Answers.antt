@@ -5,7 +5,7 @@ use Rattle.bz_tree.specs.declared.tree.Node.{Node}
 use Rattle.bz_tree.specs.declared.tree.owners.Walk.{Walk}
 use Rattle.bz_tree.specs.Tree.{Item, Segment}
 use Rattle.bz_tree.specs.View.{text_of, texts, nodes_view, seg_view}
-use Rattle.bz_tree.specs.Owners.{end_of_comma}
+use Rattle.bz_tree.specs.Cells.{end_of_comma}
 use Rattle.bz_tree.specs.private.Steps.{Walked, walked, after_comma}
 use Rattle.bz_tree.proofs.Trees.Walking.{made-seg, none_in, some_in}
 use Rattle.bz_tree.specs.declared.tree.Seg.{Seg}

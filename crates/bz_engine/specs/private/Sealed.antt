@@ -1,0 +1,55 @@
+-- The attributes that a script mentions, and rules of which other arguments are sealed, for private clauses.
+-- Begin with `asked_names` and `IsSealedRule`.
+use Rattle.std.specs.Prelude.{◌≡◌, ◌≤◌, ◌⊎◌, ℕ, Bool, false, true, ◌&&◌, ◌||◌, if◌then◌else◌, List, [], ◌∷◌, ◌++◌, length, Option, None, Some, codes, nat_le, option_and_then, unwrap_or}
+use Rattle.std.specs.List.{list_all}
+use Rattle.bz_token.specs.Common.{map_or}
+use Rattle.bz_token.specs.Lexical.{is_one_of}
+use Rattle.bz_tree.specs.Tree.{Segment, Statement}
+use Rattle.bz_canonical.specs.SealedRules.{are_alike}
+use Rattle.bz_passes.specs.Passes.{Pass}
+use Rattle.bz_label.specs.Labels.{Target}
+use Rattle.bz_rule.specs.Commands.{Command}
+use Rattle.bz_rule.specs.Sealed.{IsSealed, attributes_of}
+use Rattle.bz_engine.specs.Outcome.{Script}
+
+-- what some steps make of names one after another, if none of them gives up
+abbrev pub by_each : {A : Type 0} → (List (List ℕ) → A → Option (List (List ℕ))) → List (List ℕ) → List A → Option (List (List ℕ))
+by_each step names [] = Some names
+by_each step names (x ∷ xs) = option_and_then (λ more. by_each step more xs) (step names x)
+
+-- one name more, if it is not among them; no more than 64
+abbrev pub with_name : List (List ℕ) → List ℕ → Option (List (List ℕ))
+with_name names attr = if is_one_of names attr then Some names else (if nat_le 64 (length names) then None else Some (names ++ attr ∷ []))
+
+-- those that a command mentions, if it does not look at all attributes
+abbrev pub with_command : List (List ℕ) → Command → Option (List (List ℕ))
+with_command names c = option_and_then (by_each with_name names) (attributes_of c)
+
+abbrev pub with_pass : List (List ℕ) → Pass Target Command → Option (List (List ℕ))
+with_pass names p = by_each with_command names p.commands
+
+-- the attributes that the script mentions, and `name`, each once; none, if it may look at others
+abbrev pub asked_names : Script → List (List ℕ)
+asked_names passes = unwrap_or (by_each with_pass (codes "name" ∷ []) passes) []
+
+-- the command mentions some of the names alone
+abbrev pub is_covered : List (List ℕ) → Command → Bool
+is_covered names c = map_or false (list_all (is_one_of names)) (attributes_of c)
+
+-- each command of the script does, and `name` is one of them
+abbrev pub covers : List (List ℕ) → Script → Bool
+covers names passes = is_one_of names (codes "name") && list_all (λ (p : Pass Target Command). list_all (is_covered names) p.commands) passes
+
+-- arguments and what stands for them have the same lines
+abbrev pub HasLinesOf : List Segment → Segment → Type 0
+HasLinesOf run t = are_alike run t ≡ true
+
+-- none, or so many that the call stays on lines of its own, whatever commands drop
+abbrev pub IsNoneOrMore : ℕ → Type 0
+IsNoneOrMore count = (count ≡ 0) ⊎ (2 ≤ count)
+
+-- A rule, and the same rule where arguments of other names are sealed.
+pub record IsSealedRule (names : List (List ℕ)) (s t : Statement) : Type 0 where
+  pub count : ℕ
+  pub enough : IsNoneOrMore count
+  pub sealed : IsSealed HasLinesOf names count s t

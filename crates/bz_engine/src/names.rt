@@ -1,0 +1,116 @@
+//! The attributes that a script mentions. Of a rule the script sees no argument of another name.
+
+ghost use Rattle.std.specs.Prelude.{◌≡◌, IfOk, None, Some, bytes_eq, if◌then◌else◌, map};
+ghost use Rattle.std.specs.List.{position};
+ghost use Rattle.bz_token.specs.Lexical.{is_one_of};
+ghost use Rattle.bz_engine.specs.private.Sealed as spec;
+
+use bz_label::Text;
+use bz_memory::{NoMemory, push};
+use bz_passes::pass::Pass;
+use bz_rule::{Command, Target, attributes_of};
+use std::alloc::Global;
+
+/// So many names at most are worth looking for in a rule.
+const MOST: usize = 64;
+
+/// The attributes that the commands mention, and `name`, each once. None: they may look at others too.
+pub(crate) fn asked_names(
+    alloc: Global,
+    passes: &[Pass<Target, Command>],
+) -> Result<Vec<Text>, NoMemory>
+    ensures { IfOk result (λ names. names.items ≡ spec.asked_names passes.now) }
+{
+    let mut names = Vec::new(alloc);
+    push(&mut names, Text::from_str(alloc, "name")?)?;
+    if !add_passes(alloc, &mut names, passes)? {
+        names.clear();
+    }
+    Ok(names)
+}
+
+/// Adds the attributes that the passes mention. False: the names are of no use.
+fn add_passes(
+    alloc: Global,
+    names: &mut Vec<Text>,
+    passes: &[Pass<Target, Command>],
+) -> Result<bool, NoMemory>
+    ensures { IfOk result (λ all. spec.by_each spec.with_pass names.old.items passes.now
+        ≡ (if all then Some names.new.items else None)) }
+{
+    for pass in passes {
+        if !add_commands(alloc, names, pass.commands.as_slice())? {
+            return Ok(false);
+        }
+    }
+    Ok(true)
+}
+
+/// The same of commands.
+fn add_commands(
+    alloc: Global,
+    names: &mut Vec<Text>,
+    commands: &[Command],
+) -> Result<bool, NoMemory>
+    ensures { IfOk result (λ all. spec.by_each spec.with_command names.old.items commands.now
+        ≡ (if all then Some names.new.items else None)) }
+{
+    for command in commands {
+        if !add_command(alloc, names, command)? {
+            return Ok(false);
+        }
+    }
+    Ok(true)
+}
+
+/// The same of one command.
+fn add_command(alloc: Global, names: &mut Vec<Text>, command: &Command) -> Result<bool, NoMemory>
+    ensures { IfOk result (λ all. spec.with_command names.old.items command.now
+        ≡ (if all then Some names.new.items else None)) }
+{
+    match attributes_of(alloc, command)? {
+        None => Ok(false),
+        Some(attributes) => add_names(alloc, names, attributes.as_slice()),
+    }
+}
+
+/// Adds names, each that is not there.
+fn add_names(alloc: Global, names: &mut Vec<Text>, more: &[&str]) -> Result<bool, NoMemory>
+    ensures { IfOk result (λ all. spec.by_each spec.with_name names.old.items (map (λ name. name.now) more.now)
+        ≡ (if all then Some names.new.items else None)) }
+{
+    for name in more {
+        if !add_name(alloc, names, name)? {
+            return Ok(false);
+        }
+    }
+    Ok(true)
+}
+
+/// Adds a name, if it is not there. False: there are too many.
+fn add_name(alloc: Global, names: &mut Vec<Text>, name: &str) -> Result<bool, NoMemory>
+    ensures { IfOk result (λ all. spec.with_name names.old.items name.now
+        ≡ (if all then Some names.new.items else None)) }
+{
+    if is_one_of(names.as_slice(), name) {
+        return Ok(true);
+    }
+    if names.len() >= MOST {
+        return Ok(false);
+    }
+    push(names, Text::from_str(alloc, name)?)?;
+    Ok(true)
+}
+
+fn is_one_of(names: &[Text], asked: &str) -> bool
+    ensures { result ≡ is_one_of names.now asked.now }
+{
+    names.iter().any(|name| asked == name.as_str())
+}
+
+/// The position of a name among others.
+pub(crate) fn position_of(names: &[Text], asked: &str) -> Option<usize>
+    ensures { result ≡ position (λ name. bytes_eq name asked.now) names.now }
+{
+    names.iter().position(|name| name.as_str() == asked)
+}

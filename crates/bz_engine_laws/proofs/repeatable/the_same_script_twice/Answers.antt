@@ -1,5 +1,0 @@
-use Rattle.bz_engine_laws.proofs.RunAgain.{twice}
-use Rattle.bz_engine_laws.proofs.repeatable.the_same_script_twice.Goals as goal
-
-pub returns : goal.returns
-returns c = twice c.a_second_time_finds_nothing.ensures

@@ -1,0 +1,17 @@
+pub mod Again
+pub mod Aside
+pub mod Comments
+pub mod Doubles
+pub mod Lines
+pub mod OtherNames
+pub mod Printed
+pub mod Repeatable
+pub mod Sound
+pub mod Status
+pub mod Steps
+pub mod Unmentioned
+pub mod Untouched
+pub mod WellFormedSegments
+pub mod WholeFile
+pub mod Words
+pub mod Written

@@ -1,5 +1,0 @@
-use Rattle.bz_rule_laws.proofs.MarksStay.{marks_stay}
-use Rattle.bz_rule_laws.proofs.again.targets_look_past.Goals as goal
-
-pub returns : goal.returns
-returns c = marks_stay

@@ -1,5 +1,0 @@
-use Rattle.bz_rule_laws.proofs.Commands.Replace.{replace_elements}
-use Rattle.bz_rule_laws.proofs.comments.elements_keep_comments.Goals as goal
-
-pub returns-clause-replace : goal.returns-clause-replace
-returns-clause-replace c = replace_elements
