@@ -269,10 +269,28 @@ fn with_place<'a>(
     }
 }
 
-/// Runs the script on the statement of such a chunk, by the first of these: the one command leaves it as it is, tells a
-/// message of it, or edits one argument. False, with nothing done: the statement is to be seen.
-#[inline(never)]
+/// Runs the script on the statement of such a chunk, where a text may tell what its commands do. False, with nothing
+/// done: the statement is to be seen.
+#[inline(always)]
 fn copy_marked(
+    script: ScriptRun<'_>,
+    found: &Found<'_>,
+    progress: &mut Progress,
+    text: &mut Vec<u8>,
+) -> Result<bool, NoMemory>
+    requires { Fits progress.old.kept script.passes.now }
+    ensures { IfOk result (EditsFound (run_of script.entry) found.now progress.old progress.new
+        text.old.items text.new.items) }
+{
+    if !script.passes.may_be_answered() {
+        return Ok(false);
+    }
+    copy_answered(script, found, progress, text)
+}
+
+/// The same, by the first of these: the one command leaves it as it is, tells a message of it, or edits one argument.
+#[inline(never)]
+fn copy_answered(
     script: ScriptRun<'_>,
     found: &Found<'_>,
     progress: &mut Progress,

@@ -28,6 +28,8 @@ pub(crate) struct RulePasses {
     named: bool,
     /// What the script makes of some statements may be known without them.
     may_be_known: bool,
+    /// The one command of some pass may be answered from a text.
+    answerable: bool,
     /// The attributes that the commands mention, and `name`. None: they may look at others too.
     names: Vec<Text>,
     /// The attribute that the one command of the first pass looks at. Empty: there is none.
@@ -80,6 +82,7 @@ impl RulePasses {
         let query = is_query(passes.as_slice());
         let named = all_named(passes.as_slice());
         let names = asked_names(alloc, passes.as_slice())?;
+        let answerable = is_some_answerable(passes.as_slice());
         let may_be_known = named || !names.is_empty() || is_one_answerable(passes.as_slice());
         let attr = from_str(alloc, first_attribute(passes.as_slice()))?;
         let passes = Passes::new(alloc, passes)?;
@@ -88,6 +91,7 @@ impl RulePasses {
             query,
             named,
             may_be_known,
+            answerable,
             names,
             attr,
         })
@@ -147,6 +151,11 @@ impl RulePasses {
         self.may_be_known
     }
 
+    /// Whether the one command of some pass may be answered from a text (`is_answerable` of `answer.rt`).
+    pub(crate) fn may_be_answered(&self) -> bool {
+        self.answerable
+    }
+
     /// The attributes that the commands mention, and `name`. None: they may look at others too.
     pub(crate) fn names(&self) -> &[Text]
         ensures { result.now ≡ asked_names self.now }
@@ -160,6 +169,9 @@ impl RulePasses {
             ≡ Some asked.at) }
     {
         let name = self.attr.as_str();
+        if name.is_empty() {
+            return None;
+        }
         let at = position_of(self.names.as_slice(), name)?;
         Some(AskedAttribute { name, at })
     }
@@ -173,13 +185,16 @@ fn one_command(pass: &Pass<Target, Command>) -> Option<&Command> {
 }
 
 fn is_one_answerable(passes: &[Pass<Target, Command>]) -> bool {
-    let [pass] = passes else {
-        return false;
-    };
-    match one_command(pass) {
-        None => false,
-        Some(command) => is_answerable(command),
+    matches!(passes, [_]) && is_some_answerable(passes)
+}
+
+fn is_some_answerable(passes: &[Pass<Target, Command>]) -> bool {
+    for pass in passes {
+        if matches!(one_command(pass), Some(command) if is_answerable(command)) {
+            return true;
+        }
     }
+    false
 }
 
 /// The attribute that the first pass looks at: mostly the others look at the same.

@@ -6,7 +6,7 @@ use Rattle.bz_engine.specs.declared.failure.Message.{Message}
 use Rattle.bz_engine.specs.private.Edits.{run_of}
 use Rattle.bz_engine.specs.private.Found.{IsForOne, LeavesRule, TellsRule, log_of}
 use Rattle.bz_engine.proofs.OnlyPass.{is_done, log_at, log_fits, stays_laid, told_laid}
-use Rattle.bz_engine.proofs.canonical.copy_marked.Goals as goal
+use Rattle.bz_engine.proofs.canonical.copy_answered.Goals as goal
 
 pub keep_line-requires : goal.keep_line-requires
 keep_line-requires c = log_at _ _ c.args.progress.now.kept c.args.script.passes.now c.in-Some.only c.args.found.now c.in-Some.ensures c.requires
