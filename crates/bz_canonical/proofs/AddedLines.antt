@@ -117,7 +117,6 @@ value_new depth home edit text old buffer put new list l none pending new_is =
       λ args reads. subst (λ xs. IsNew home (sought edit) xs (((F ++ L) ++ E) ++ list.end.now)) (sym (a.same args reads)) (record {
         list = ap (not_a_list attr) first;
         new_is = ap (adds home (value ∷ [])) first ∙ ap (λ (ss : List Segment). not (is_empty ss)) (news_are home value a.elements false other);
-        some = ap is_empty added;
         lines_are = ap (λ (t : List ℕ). ((F ++ L) ++ E) ++ t) l.last.front ∙ sym lines ∙ ap argument_lines (sym added);
       }),
     )

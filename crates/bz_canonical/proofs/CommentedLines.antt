@@ -175,7 +175,7 @@ comment_taken depth attr s b written from line inner above below rest first some
         let B : List ℕ = bytes_of (below_pieces a) in
         let begins = name_line attr a.nodes (piece Closed Operator (codes ",") ∷ (suffix_piece a.suffix ++ [])) named texts.2 in
         let some_first : is_empty (first_args attr s) ≡ false = ap is_empty first_is in
-        let whole : written ≡ b.before ++ ((C ++ B) ++ b.after) = sym laid ∙ ap layout_text (sym (as_is_same s place.rule place.rule_is)) ∙ place.takes (λ args. args) (as_is_local attr) some_first
+        let whole : written ≡ b.before ++ ((C ++ B) ++ b.after) = sym laid ∙ ap layout_text (sym (as_is_same s place.rule place.rule_is)) ∙ place.takes (λ args. args) (as_is_local attr) (λ none. absurd (false≢true (sym some_first ∙ none)))
         ∙ ap (λ xs. b.before ++ (argument_lines xs ++ b.after)) first_is ∙ ap (λ (t : List ℕ). b.before ++ (t ++ b.after)) (lines_below a a.before) in
         let there : from ≡ C ++ (B ++ b.after) = from_is ∙ ap (λ (t : List ℕ). drop (length b.before) t) whole ∙ drop-append_seam b.before ((C ++ B) ++ b.after) ∙ append_assoc C B b.after in
         let opens : B ++ b.after ≡ 10 ∷ (indent 1 ++ (begins.0 ∷ (begins.1 ++ b.after))) = ap (λ (t : List ℕ). t ++ b.after) begins.2 in
@@ -190,7 +190,7 @@ comment_taken depth attr s b written from line inner above below rest first some
           there = ap (has attr) first_is ∙ rw named refl;
           takes = λ new.
               let made : commented attr new (first_args attr s) ≡ with_comment new a ∷ [] = ap (commented attr new) first_is ∙ made_of new a named in
-              place.takes (commented attr new) (edit_local attr (λ x. with_comment new x ∷ [])) (ap is_empty made)
+              place.takes (commented attr new) (edit_local attr (λ x. with_comment new x ∷ [])) (λ none. absurd (false≢true (sym (ap is_empty made) ∙ none)))
               ∙ ap (λ xs. b.before ++ (argument_lines xs ++ b.after)) made
               ∙ ap (λ (t : List ℕ). b.before ++ (t ++ b.after)) (lines_below a (a.before ++ new ∷ []) ∙ ap (λ (t : List ℕ). t ++ B) (comments_more a.before new))
               ∙ joined b.before C new B b.after ∙ (λ i. sym above_at i ++ (new ++ sym below_at i));

@@ -13,9 +13,9 @@ use Rattle.bz_canonical.specs.declared.edited.Passed.{Passed}
 use Rattle.bz_canonical.specs.declared.lists.ReadElement.{ReadElement}
 use Rattle.bz_canonical.specs.declared.arguments.Pending.{Pending}
 use Rattle.bz_canonical.specs.private.Edited.{AreEdited, IsHeld, become, edited, edited_one, have_meant, is_meant, one_more}
-use Rattle.bz_canonical.specs.private.Elements.{Element, IsElementRead, element_line, element_lines, element_written}
-use Rattle.bz_canonical.proofs.ElementLists.{flat_one, longer, one_at_least, one_of_two, or_yes, passed_more, passed_none}
-use Rattle.bz_canonical.proofs.GroupSegments.{or_no, second_of_more}
+use Rattle.bz_canonical.specs.private.Elements.{Element, IsElementRead, are_broken, element_line, element_lines, element_written, is_noted}
+use Rattle.bz_canonical.proofs.ElementLists.{broken_more, flat_one, longer, one_at_least, or_yes, passed_more, passed_none}
+use Rattle.bz_canonical.proofs.GroupSegments.{or_no}
 use Rattle.bz_canonical.proofs.Pendings.{pend_more, pend_same}
 
 -- one more
@@ -36,13 +36,6 @@ lines_more : (front line : List ℕ) (xs ys : List Element) (x : Element) → ys
 lines_more front line xs ys x more is =
     append_assoc front (element_lines (respell String) xs) line
     ∙ ap (λ (t : List ℕ). front ++ t) (ap (λ (t : List ℕ). element_lines (respell String) xs ++ t) is ∙ sym (flat_one (element_line (respell String)) xs x) ∙ ap (element_lines (respell String)) (sym more))
-
-second_left : (n : ℕ) → (nat_le 2 n || nat_le 1 n) ≡ nat_le 2 (n + 1)
-second_left n = by (nat_le 2 n) (nat_le 1 n) (one_of_two n) ∙ second_of_more n
-  where
-    by : (t o : Bool) → (t ≡ true → o ≡ true) → (t || o) ≡ o
-    by true o less = sym (less refl)
-    by false o less = refl
 
 -- what an element becomes
 
@@ -66,7 +59,7 @@ stay_all home edit (e ∷ es) none =
 -- what is passed
 
 pub edited_none : (home : Package) (edit : ListEdit) (lines : Bool) (front buffer : List ℕ) (at : Pending) → at.from.now ≡ front ++ at.rest.now
-    → AreEdited home edit lines (buffer ++ front) at.rest.now buffer (record { at = at; one = false; meant = false; left = false; several = false })
+    → AreEdited home edit lines (buffer ++ front) at.rest.now buffer (record { at = at; one = false; meant = false; left = false; broken = false })
 edited_none home edit lines front buffer at is = record {
   written = [];
   broken = false;
@@ -74,13 +67,13 @@ edited_none home edit lines front buffer at is = record {
   held = record { part = front; front = is; all_is = append-nil (buffer ++ front); whole = λ empty. refl };
   meant_is = refl;
   left_is = refl;
-  several_is = refl;
+  broken_is = refl;
 }
 
 -- it goes
 pub edited_gone : (home : Package) (edit : ListEdit) (lines : Bool) (front inside old new : List ℕ) (p : Passed) (read : ReadElement) → AreEdited home edit lines front inside old p → IsElementRead lines p.one p.at.rest.now read
     → true ≡ is_meant home edit read.string.token.now → edit.new ≡ None → ((part : List ℕ) → p.at.from.now ≡ part ++ p.at.rest.now → new ≡ old ++ part)
-    → AreEdited home edit lines front inside new (record { at = record { from = read.rest; rest = read.rest }; one = true; meant = true; left = p.left; several = p.several })
+    → AreEdited home edit lines front inside new (record { at = record { from = read.rest; rest = read.rest }; one = true; meant = true; left = p.left; broken = p.broken })
 edited_gone home edit lines front inside old new p read k e told none put =
     let es : List Element = k.passed.elements in
     let is : true ≡ is_meant home edit e.element.token = told ∙ ap (is_meant home edit) (sym e.token_is) in
@@ -97,14 +90,14 @@ edited_gone home edit lines front inside old new p read k e told none put =
       };
       meant_is = sym (or_yes p.meant true refl) ∙ meant_more home edit es e.element p.meant true k.meant_is is;
       left_is = k.left_is ∙ ap (λ (xs : List Element). nat_le 1 (length xs)) (sym same);
-      several_is = k.several_is ∙ ap (λ (xs : List Element). nat_le 2 (length xs)) (sym same);
+      broken_is = k.broken_is ∙ ap are_broken (sym same);
     }
 
 -- one is left more, which is written on this line; what is written up to there is held
 edited_more : (home : Package) (edit : ListEdit) (lines : Bool) (front inside old new line : List ℕ) (p : Passed) (read : ReadElement) (at : Pending) (meant : Bool) → AreEdited home edit lines front inside old p → (e : IsElementRead lines p.one p.at.rest.now read)
-    → (x : Element) → edited_one home edit e.element ≡ x ∷ [] → line ≡ element_line (respell String) x → meant ≡ is_meant home edit e.element.token
-    → ((all : List ℕ) → IsHeld old all p.at → IsHeld new (all ++ line) (record { from = at.from; rest = read.rest })) → AreEdited home edit lines front inside new (one_more p (record { from = at.from; rest = read.rest }) meant)
-edited_more home edit lines front inside old new line p read at meant k e x one line_is told held =
+    → (x : Element) → edited_one home edit e.element ≡ x ∷ [] → is_noted x ≡ read.noted → line ≡ element_line (respell String) x → meant ≡ is_meant home edit e.element.token
+    → ((all : List ℕ) → IsHeld old all p.at → IsHeld new (all ++ line) (record { from = at.from; rest = read.rest })) → AreEdited home edit lines front inside new (one_more p (record { from = at.from; rest = read.rest }) meant read.noted)
+edited_more home edit lines front inside old new line p read at meant k e x one noted line_is told held =
     let es : List Element = k.passed.elements in
     let xs : List Element = edited home edit es in
     let ys : List Element = edited home edit (es ++ e.element ∷ []) in
@@ -118,15 +111,15 @@ edited_more home edit lines front inside old new line p read at meant k e x one 
       held = pend_same at.from.now new (all ++ line) at.from.now read.rest.now (front ++ element_lines (respell String) ys) (held all k.held) (lines_more front line xs ys x more line_is);
       meant_is = meant_more home edit es e.element p.meant meant k.meant_is told;
       left_is = one_at_least (length xs) ∙ ap (nat_le 1) (sym size);
-      several_is = (λ i. k.several_is i || k.left_is i) ∙ second_left (length xs) ∙ ap (nat_le 2) (sym size);
+      broken_is = broken_more xs x p.broken p.left read.noted k.broken_is k.left_is noted ∙ ap are_broken (sym more);
     }
 
 -- it stays as it stands
 pub edited_as_is : (home : Package) (edit : ListEdit) (lines : Bool) (front inside old : List ℕ) (p : Passed) (read : ReadElement) → AreEdited home edit lines front inside old p → IsElementRead lines p.one p.at.rest.now read
-    → false ≡ is_meant home edit read.string.token.now → read.otherwise ≡ false → AreEdited home edit lines front inside old (one_more p (record { from = p.at.from; rest = read.rest }) false)
+    → false ≡ is_meant home edit read.string.token.now → read.otherwise ≡ false → AreEdited home edit lines front inside old (one_more p (record { from = p.at.from; rest = read.rest }) false read.noted)
 edited_as_is home edit lines front inside old p read k e told plain =
     let is : false ≡ is_meant home edit e.element.token = told ∙ ap (is_meant home edit) (sym e.token_is) in
-    edited_more home edit lines front inside old old (element_written read) p read p.at false k e e.element (stays_one home edit e.element is) e.spells is
+    edited_more home edit lines front inside old old (element_written read) p read p.at false k e e.element (stays_one home edit e.element is) e.noted_is e.spells is
     (λ all h. pend_more p.at.from.now old all p.at.from.now p.at.rest.now (element_written read) read.rest.now h (e.same plain))
 
 -- a line is written after what was pending
@@ -141,16 +134,16 @@ held_put old put new line all at read pending new_is h = record {
 -- it stays, otherwise than it stood
 pub edited_put : (home : Package) (edit : ListEdit) (lines : Bool) (front inside old put new : List ℕ) (p : Passed) (read : ReadElement) → AreEdited home edit lines front inside old p → IsElementRead lines p.one p.at.rest.now read
     → false ≡ is_meant home edit read.string.token.now → ((part : List ℕ) → p.at.from.now ≡ part ++ p.at.rest.now → put ≡ old ++ part) → new ≡ put ++ element_written read
-    → AreEdited home edit lines front inside new (one_more p (record { from = read.rest; rest = read.rest }) false)
+    → AreEdited home edit lines front inside new (one_more p (record { from = read.rest; rest = read.rest }) false read.noted)
 edited_put home edit lines front inside old put new p read k e told pending new_is =
     let is : false ≡ is_meant home edit e.element.token = told ∙ ap (is_meant home edit) (sym e.token_is) in
-    edited_more home edit lines front inside old new (element_written read) p read (record { from = read.rest; rest = read.rest }) false k e e.element (stays_one home edit e.element is) e.spells is
+    edited_more home edit lines front inside old new (element_written read) p read (record { from = read.rest; rest = read.rest }) false k e e.element (stays_one home edit e.element is) e.noted_is e.spells is
     (λ all h. held_put old put new (element_written read) all p.at read pending new_is h)
 
 -- it becomes another
 pub edited_as : (home : Package) (edit : ListEdit) (lines : Bool) (front inside old put new literal : List ℕ) (p : Passed) (read : ReadElement) (other : NewString) → AreEdited home edit lines front inside old p → IsElementRead lines p.one p.at.rest.now read
     → true ≡ is_meant home edit read.string.token.now → edit.new ≡ Some other → literal ≡ quoted other.value.now → ((part : List ℕ) → p.at.from.now ≡ part ++ p.at.rest.now → put ≡ old ++ part)
-    → new ≡ put ++ (read.front.now ++ (literal ++ read.back.now)) → AreEdited home edit lines front inside new (one_more p (record { from = read.rest; rest = read.rest }) true)
+    → new ≡ put ++ (read.front.now ++ (literal ++ read.back.now)) → AreEdited home edit lines front inside new (one_more p (record { from = read.rest; rest = read.rest }) true read.noted)
 edited_as home edit lines front inside old put new literal p read other k e told some quoted_is pending new_is =
     let is : true ≡ is_meant home edit e.element.token = told ∙ ap (is_meant home edit) (sym e.token_is) in
     let x : Element = record e.element { token = quoted other.value.now } in
@@ -158,5 +151,5 @@ edited_as home edit lines front inside old put new literal p read other k e told
     let S : List ℕ = bytes_of (suffix_piece e.element.suffix) in
     let line : List ℕ = read.front.now ++ (literal ++ read.back.now) in
     let line_is : line ≡ element_line (respell String) x = (λ i. e.front_is i ++ (quoted_is i ++ e.back_is i)) ∙ append_assoc C (10 ∷ indent 2) (quoted other.value.now ++ (44 ∷ S)) in
-    edited_more home edit lines front inside old new line p read (record { from = read.rest; rest = read.rest }) true k e x (becomes_one home edit e.element is ∙ ap (λ new. become new e.element) some) line_is is
+    edited_more home edit lines front inside old new line p read (record { from = read.rest; rest = read.rest }) true k e x (becomes_one home edit e.element is ∙ ap (λ new. become new e.element) some) e.noted_is line_is is
     (λ all h. held_put old put new line all p.at read pending new_is h)

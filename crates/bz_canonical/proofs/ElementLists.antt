@@ -19,7 +19,7 @@ use Rattle.bz_layout.proofs.Pieces.{bytes_append}
 use Rattle.bz_layout_laws.specs.FreeLayout.{broken_by, flat_by, free, item_by, own}
 use Rattle.bz_canonical.specs.declared.lists.ReadElement.{ReadElement}
 use Rattle.bz_canonical.specs.declared.lists.ReadString.{ReadString}
-use Rattle.bz_canonical.specs.private.Elements.{AreElements, AreElementsRead, ArePassed, Element, IsElementRead, IsListRead, as_is, separator, closing, element_line, element_lines, element_list, element_segs, element_stands, element_written, elements_as_is, elements_stand, is_noted, others_in_place}
+use Rattle.bz_canonical.specs.private.Elements.{AreElements, AreElementsRead, ArePassed, Element, IsElementRead, IsListRead, as_is, separator, are_broken, closing, element_line, element_lines, element_list, element_segs, element_stands, element_written, elements_as_is, elements_stand, is_noted, others_in_place}
 use Rattle.bz_canonical.specs.private.Strings.{IsSingleFront, IsStringRead, spelling}
 use Rattle.bz_canonical.specs.private.Segments.{AreNotesFront, IsBesideFront}
 use Rattle.bz_canonical.proofs.GroupSegments.{second_of_more}
@@ -121,19 +121,11 @@ stand_one false one (x ∷ xs) e is =
     one_first : (n : ℕ) → nat_le 1 (suc n) ≡ true
     one_first n = grind (arith, nat_tests)
 
-abbrev pub passed_more : (lines one b : Bool) (text rest w : List ℕ) (read : ReadElement) → ArePassed lines text rest w one b → IsElementRead lines one rest read
-    → ArePassed lines text read.rest.now (w ++ element_written read) true (b || (one || read.noted))
-passed_more lines one b text rest w read l e = record {
-  elements = l.elements ++ e.element ∷ [];
-  are = elements_append l.elements (e.element ∷ []) l.are e.are;
-  bare = λ no. list_any-append is_noted l.elements (e.element ∷ []) ∙ (λ i. l.bare no i || (e.bare no i || false));
-  front = l.front ∙ ap (λ (t : List ℕ). elements_stand lines l.elements ++ t) e.front ∙ sym (append_assoc (elements_stand lines l.elements) (element_stands lines one e.element) read.rest.now)
-      ∙ ap (λ (t : List ℕ). t ++ read.rest.now) (stand_one lines one l.elements e.element l.one_is);
-  spells = (λ i. l.spells i ++ e.spells i) ∙ sym (flat_one (element_line (respell String)) l.elements e.element);
-  one_is = one_at_least (length l.elements) ∙ ap (nat_le 1) (sym (longer l.elements e.element));
-  broken_is = rw (l.broken_is, l.one_is, list_any-append is_noted l.elements (e.element ∷ []), e.noted_is, longer l.elements e.element, sym (second_of_more (length l.elements)))
-      (by (list_any is_noted l.elements) (nat_le 2 (length l.elements)) (nat_le 1 (length l.elements)) (one_of_two (length l.elements)) read.noted);
-}
+-- whether they are written on lines then
+pub broken_more : (es : List Element) (e : Element) (b one noted : Bool) → b ≡ are_broken es → one ≡ nat_le 1 (length es) → is_noted e ≡ noted → (b || (one || noted)) ≡ are_broken (es ++ e ∷ [])
+broken_more es e b one noted b_is one_is noted_is =
+    rw (b_is, one_is, list_any-append is_noted es (e ∷ []), noted_is, longer es e, sym (second_of_more (length es)))
+    (by (list_any is_noted es) (nat_le 2 (length es)) (nat_le 1 (length es)) (one_of_two (length es)) noted)
   where
     by : (c t o : Bool) → (t ≡ true → o ≡ true) → (d : Bool) → ((c || t) || (o || d)) ≡ ((c || (d || false)) || o)
     by true t o less d = refl
@@ -147,6 +139,19 @@ passed_more lines one b text rest w read l e = record {
     by false false true less false = refl
     by false false false less true = refl
     by false false false less false = refl
+
+abbrev pub passed_more : (lines one b : Bool) (text rest w : List ℕ) (read : ReadElement) → ArePassed lines text rest w one b → IsElementRead lines one rest read
+    → ArePassed lines text read.rest.now (w ++ element_written read) true (b || (one || read.noted))
+passed_more lines one b text rest w read l e = record {
+  elements = l.elements ++ e.element ∷ [];
+  are = elements_append l.elements (e.element ∷ []) l.are e.are;
+  bare = λ no. list_any-append is_noted l.elements (e.element ∷ []) ∙ (λ i. l.bare no i || (e.bare no i || false));
+  front = l.front ∙ ap (λ (t : List ℕ). elements_stand lines l.elements ++ t) e.front ∙ sym (append_assoc (elements_stand lines l.elements) (element_stands lines one e.element) read.rest.now)
+      ∙ ap (λ (t : List ℕ). t ++ read.rest.now) (stand_one lines one l.elements e.element l.one_is);
+  spells = (λ i. l.spells i ++ e.spells i) ∙ sym (flat_one (element_line (respell String)) l.elements e.element);
+  one_is = one_at_least (length l.elements) ∙ ap (nat_le 1) (sym (longer l.elements e.element));
+  broken_is = broken_more l.elements e.element b one read.noted l.broken_is l.one_is e.noted_is;
+}
 
 abbrev pub passed_first : (lines : Bool) (text : List ℕ) (read : ReadElement) → IsElementRead lines false text read → ArePassed lines text read.rest.now (element_written read) true read.noted
 passed_first lines text read e = passed_more lines false false text text [] read (passed_none lines text) e
@@ -200,7 +205,7 @@ list_broken one b text end w r some = record {
   spells = ap (λ (t : List ℕ). 91 ∷ (t ++ closed)) r.spells ∙ sym (written_broken r.elements (sym r.broken_is ∙ some));
 }
 
-alone_written : (before : List (List ℕ)) (token : List ℕ) (suffix : Option (List ℕ)) → is_noted (record { before = before; token = token; suffix = suffix }) ≡ false
+pub alone_written : (before : List (List ℕ)) (token : List ℕ) (suffix : Option (List ℕ)) → is_noted (record { before = before; token = token; suffix = suffix }) ≡ false
     → 91 ∷ (respell String token ++ 93 ∷ []) ≡ bytes_of (item_pieces Broken 1 Closed (element_list (record { before = before; token = token; suffix = suffix } ∷ [])))
 alone_written [] token None bare = refl
 alone_written [] token (Some s) bare = absurd (false≢true (sym bare))

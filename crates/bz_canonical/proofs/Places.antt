@@ -236,6 +236,13 @@ texts_of_kept (b ∷ keep) [] texts = tt
 texts_of_kept (true ∷ keep) (a ∷ args) texts = (texts.0, texts.1, texts.2, texts.3, texts_of_kept keep args texts.4)
 texts_of_kept (false ∷ keep) (a ∷ args) texts = texts_of_kept keep args texts.4
 
+-- at least two are left, where one becomes others, or goes beside two
+two_left : (before one after new : List Segment) (n : ℕ) (may_go : Bool) → count (segs_of one) ≤ 1 → 2 ≤ n → n ≡ count (segs_of (before ++ (one ++ after))) → (may_go ≡ true → 3 ≤ n) → (is_empty new ≡ true → may_go ≡ true)
+    → 2 ≤ count (segs_of (before ++ (new ++ after)))
+two_left before one after [] n may_go few many is three goes = omega (arith, three (goes refl), is, few, counted before (one ++ after), counted one after, counted before after)
+two_left before one after (x ∷ xs) n may_go few many is three goes =
+    omega (arith, many, is, few, some_counted (x ∷ xs) refl, counted before (one ++ after), counted one after, counted before ((x ∷ xs) ++ after), counted (x ∷ xs) after)
+
 -- a call of several arguments, on lines
 call_lines : (before new after : List Segment) (end : List (List ℕ)) → nat_le 2 (count (segs_of (before ++ (new ++ after)))) ≡ true
     → bytes_of (item_pieces Broken 0 Closed (group RuleCall (segs_of (before ++ (new ++ after))) false end))
@@ -252,13 +259,13 @@ call_lines before new after end many =
         rw (on, bytes_append (broken_segs Broken 1 RuleCall true ss) (comments 1 end ++ piece (Line 0) Operator (codes ")") ∷ []), bytes_append (comments 1 end) (piece (Line 0) Operator (codes ")") ∷ []), same) (simp append_assoc)
 
 -- the place that a span of the rule tells
-abbrev place_by : ArgumentSpan → List ℕ → List ℕ → Between
-place_by span chunk written = record { before = take span.start written; lines = between span.from span.to chunk; after = drop span.end written }
+abbrev place_by : ArgumentSpan → Bool → List ℕ → List ℕ → Between
+place_by span may_go chunk written = record { before = take span.start written; lines = between span.from span.to chunk; after = drop span.end written; may_go = may_go }
 
-named_place : (depth : ℕ) (names : List (List ℕ)) (attr : List ℕ) (i : ℕ) (r : NamedRule) (stands : List (List ℕ)) (chunk written : List ℕ) (spans : List ArgumentSpan) → position (λ name. bytes_eq name attr) names ≡ Some i → 2 ≤ length spans
+named_place : (depth : ℕ) (names : List (List ℕ)) (attr : List ℕ) (i : ℕ) (r : NamedRule) (stands : List (List ℕ)) (chunk written : List ℕ) (spans : List ArgumentSpan) (may_go : Bool) → position (λ name. bytes_eq name attr) names ≡ Some i → 2 ≤ length spans → (may_go ≡ true → 3 ≤ length spans)
     → IsSpannedIn depth names r stands chunk written spans → SegsHaveTexts (segs_of (name_argument r.name ∷ r.args))
-    → HasPlace depth attr (statement_of r) (place_by (span_named i (no_lines (length (front_text r.notes r.kind)) (length (front_text r.notes r.kind))) spans) chunk written)
-named_place depth names attr i r stands chunk written spans at many is texts =
+    → HasPlace depth attr (statement_of r) (place_by (span_named i (no_lines (length (front_text r.notes r.kind)) (length (front_text r.notes r.kind))) spans) may_go chunk written)
+named_place depth names attr i r stands chunk written spans may_go at many three is texts =
     let F : List ℕ = front_text r.notes r.kind in
     let args : List Segment = name_argument r.name ∷ r.args in
     let p = place_at names attr i at (length F) (length F) args stands spans is.spanned.are in
@@ -283,13 +290,13 @@ named_place depth names attr i r stands chunk written spans at many is texts =
       none = ap is_empty lines_are ∙ p.none ∙ ap is_empty (sym first_is);
       reads = subst (λ (t : List ℕ). AreReadAlone depth t (first_args attr (statement_of r))) (sym lines_are) (subst (AreReadAlone depth lines) (p.one_is ∙ sym first_is) (is.reads p.keep));
       texts = subst (λ xs. SegsHaveTexts (segs_of xs)) (p.one_is ∙ sym first_is) (texts_of_kept p.keep args texts);
-      takes = λ f local some.
+      takes = λ f local goes.
           let new : List Segment = f p.one in
-          let some_new : is_empty new ≡ false = ap (λ xs. is_empty (f xs)) (sym first_is) ∙ some in
           let all_is : f (segments (segs_of args)) ≡ p.before ++ (new ++ p.after) = ap f (segments_of args) ∙ p.splits f local in
           let few : count (segs_of p.one) ≤ 1 = subst (λ xs. count (segs_of xs) ≤ 1) p.alone_is (one_at_most (first_named attr args)) in
           let others : 2 ≤ count (segs_of (p.before ++ (new ++ p.after))) =
-          omega (arith, many, spans_count names (length F) (length F) args stands spans is.spanned.are, ap (λ xs. count (segs_of xs)) p.all, counted p.before (p.one ++ p.after), counted p.one p.after, few, some_counted new some_new, counted p.before (new ++ p.after), counted new p.after) in
+          two_left p.before p.one p.after new (length spans) may_go few many (spans_count names (length F) (length F) args stands spans is.spanned.are ∙ ap (λ xs. count (segs_of xs)) p.all) three
+          (λ none. goes (ap (λ xs. is_empty (f xs)) first_is ∙ none)) in
           layout_text_is (with_args f (statement_of r))
           ∙ with_group (comment_lines r.notes) (item_pieces Broken 0 Closed (group RuleCall (segs_of (f (segments (segs_of args)))) false r.end)) (suffix_piece r.suffix) r.kind _
           (ap (λ xs. bytes_of (item_pieces Broken 0 Closed (group RuleCall (segs_of xs) false r.end))) all_is ∙ call_lines p.before new p.after r.end (two _ others))
@@ -310,11 +317,11 @@ same_span : (i : ℕ) (x y : ArgumentSpan) (spans : List ArgumentSpan) → 2 ≤
 same_span i x y [] many = absurd (omega (arith, many))
 same_span i x y (s ∷ ss) many = refl
 
-pub spans_place : (first depth : ℕ) (names : List (List ℕ)) (attr : List ℕ) (i : ℕ) (s : Statement) (chunk written : List ℕ) (spans : List ArgumentSpan) (span : ArgumentSpan) → position (λ name. bytes_eq name attr) names ≡ Some i → 2 ≤ length spans
-    → span ≡ span_named i (no_lines 0 0) spans → HasSpans first depth names s chunk written spans → HasPlace depth attr s (place_by span chunk written)
-spans_place first depth names attr i s chunk written spans span at many span_is has =
+pub spans_place : (first depth : ℕ) (names : List (List ℕ)) (attr : List ℕ) (i : ℕ) (s : Statement) (chunk written : List ℕ) (spans : List ArgumentSpan) (span : ArgumentSpan) (may_go : Bool) → position (λ name. bytes_eq name attr) names ≡ Some i → 2 ≤ length spans → (may_go ≡ true → 3 ≤ length spans)
+    → span ≡ span_named i (no_lines 0 0) spans → HasSpans first depth names s chunk written spans → HasPlace depth attr s (place_by span may_go chunk written)
+spans_place first depth names attr i s chunk written spans span may_go at many three span_is has =
     let F : List ℕ = front_text has.rule.notes has.rule.kind in
     let none : ArgumentSpan = no_lines (length F) (length F) in
-    subst (λ (z : Statement). HasPlace depth attr z (place_by span chunk written)) (sym has.statement_is)
-    (subst (λ (x : ArgumentSpan). HasPlace depth attr (statement_of has.rule) (place_by x chunk written)) (same_span i none (no_lines 0 0) spans many ∙ sym span_is)
-    (named_place depth names attr i has.rule has.stands chunk written spans at many has.spanned has.texts))
+    subst (λ (z : Statement). HasPlace depth attr z (place_by span may_go chunk written)) (sym has.statement_is)
+    (subst (λ (x : ArgumentSpan). HasPlace depth attr (statement_of has.rule) (place_by x may_go chunk written)) (same_span i none (no_lines 0 0) spans many ∙ sym span_is)
+    (named_place depth names attr i has.rule has.stands chunk written spans may_go at many three has.spanned has.texts))

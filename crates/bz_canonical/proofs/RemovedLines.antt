@@ -1,5 +1,6 @@
 -- What `remove` of one value makes of an argument whose value is one list of strings.
-use Rattle.std.proofs.Common.{◌≡◌, ℕ, List, [], ◌∷◌, ◌++◌, Bool, true, false, ◌||◌, ◌&&◌, not, refl, sym, ap, ◌∙◌, subst, bytes_eq}
+use Rattle.std.proofs.Common.{◌≡◌, ℕ, List, [], ◌∷◌, ◌++◌, Bool, true, false, ◌||◌, ◌&&◌, not, refl, sym, ap, ◌∙◌, append-nil, subst, bytes_eq}
+use Rattle.std.proofs.lemmas.Bool.{false≢true}
 use Rattle.std.specs.Prelude.{codes, Option, None, Some, Result, Ok, Err, IfOk, IfSome, if◌then◌else◌}
 use Rattle.bz_token.specs.Common.{is_empty}
 use Rattle.bz_token.specs.declared.token.Kind.TheVariants.{Identifier, Operator}
@@ -19,7 +20,7 @@ use Rattle.bz_canonical.specs.declared.edited.EditedList.{EditedList}
 use Rattle.bz_canonical.specs.declared.edited.EditedList.TheVariants.{Unchanged, Written}
 use Rattle.bz_canonical.specs.declared.edited.ListEdit.{ListEdit}
 use Rattle.bz_canonical.specs.private.Added.{is_word, list_arg}
-use Rattle.bz_canonical.specs.private.Edited.{EditsElements, edited, have_meant}
+use Rattle.bz_canonical.specs.private.Edited.{EditsElements, edited, have_meant, left_args}
 use Rattle.bz_canonical.specs.private.Elements.{Element, element_segs}
 use Rattle.bz_canonical.proofs.EditedLines.{have_is, no_new, segment_of, sought}
 use Rattle.bz_canonical.proofs.ListLines.{chooses_is}
@@ -42,23 +43,36 @@ loses_none : (x b : Bool) → b ≡ false → (true && not x && b) ≡ false
 loses_none true b some = refl
 loses_none false b some = some
 
-filtered_is : (f : List Segment → List Segment) (word : List ℕ) (notes : List (List ℕ)) (es left : List Element) (suffix : Option (List ℕ)) → f (segments (element_segs es)) ≡ segments (element_segs left) → is_empty left ≡ false
-    → filtered f (list_arg notes word es suffix) ≡ list_arg notes word left suffix ∷ []
-filtered_is f word notes es left suffix is some =
+loses : (x b : Bool) → x ≡ false → b ≡ true → (true && not x && b) ≡ true
+loses x b some none = rw (some, none) refl
+
+filtered_is : (f : List Segment → List Segment) (word : List ℕ) (notes : List (List ℕ)) (es left : List Element) (suffix : Option (List ℕ)) → f (segments (element_segs es)) ≡ segments (element_segs left) → is_empty es ≡ false
+    → filtered f (list_arg notes word es suffix) ≡ left_args notes word left suffix
+filtered_is f word notes es [] suffix is filled =
     let a : Segment = list_arg notes word es suffix in
-    ap (λ b. if b then [] else with_value (edit_parts f (value a)) a ∷ []) (loses_none (is_empty (segments (element_segs es))) (is_empty (f (segments (element_segs es)))) (ap is_empty is ∙ some_segments left some))
+    ap (λ b. if b then [] else with_value (edit_parts f (value a)) a ∷ []) (loses (is_empty (segments (element_segs es))) (is_empty (f (segments (element_segs es)))) (some_segments es filled) (ap is_empty is))
+filtered_is f word notes es (x ∷ xs) suffix is filled =
+    let left : List Element = x ∷ xs in
+    let a : Segment = list_arg notes word es suffix in
+    ap (λ b. if b then [] else with_value (edit_parts f (value a)) a ∷ []) (loses_none (is_empty (segments (element_segs es))) (is_empty (f (segments (element_segs es)))) (ap is_empty is))
     ∙ ap (λ ss. record { before = notes; nodes = leaf Identifier word ∷ leaf Operator (codes "=") ∷ group ListKind ss false [] ∷ []; suffix = suffix } ∷ []) (ap segs_of is ∙ segs_back (element_segs left))
 
-remove_is : (home : Package) (edit : ListEdit) (word : List ℕ) (notes : List (List ℕ)) (es : List Element) (suffix : Option (List ℕ)) → bytes_eq edit.attr.now word ≡ true → is_empty (edited home (no_new edit) es) ≡ false
-    → remove home (Named edit.attr.now) (edit.word.now ∷ []) (list_arg notes word es suffix ∷ []) ≡ list_arg notes word (edited home (no_new edit) es) suffix ∷ []
-remove_is home edit word notes es suffix named some =
-    rw named (ap (λ (xs : List Segment). xs ++ []) (filtered_is (unchosen home (Values (edit.word.now ∷ []))) word notes es (edited home (no_new edit) es) suffix (unchosen_is home edit es) some))
+remove_is : (home : Package) (edit : ListEdit) (word : List ℕ) (notes : List (List ℕ)) (es : List Element) (suffix : Option (List ℕ)) → bytes_eq edit.attr.now word ≡ true → is_empty es ≡ false
+    → remove home (Named edit.attr.now) (edit.word.now ∷ []) (list_arg notes word es suffix ∷ []) ≡ left_args notes word (edited home (no_new edit) es) suffix
+remove_is home edit word notes es suffix named filled =
+    rw named (ap (λ (xs : List Segment). xs ++ []) (filtered_is (unchosen home (Values (edit.word.now ∷ []))) word notes es (edited home (no_new edit) es) suffix (unchosen_is home edit es) filled)
+    ∙ append-nil (left_args notes word (edited home (no_new edit) es) suffix))
 
 removes_is : (home : Package) (edit : ListEdit) (word : List ℕ) (notes : List (List ℕ)) (es : List Element) (suffix : Option (List ℕ)) → bytes_eq edit.attr.now word ≡ true
     → removes home (Named edit.attr.now) (edit.word.now ∷ []) (list_arg notes word es suffix ∷ []) ≡ have_meant home (no_new edit) es
 removes_is home edit word notes es suffix named = chooses_is home edit.attr.now edit.word.now word notes es suffix named ∙ sym (have_is home edit es)
 
 -- what is made of its lines
+
+meant_some : (home : Package) (edit : ListEdit) (es : List Element) → have_meant home edit es ≡ true → is_empty es ≡ false
+meant_some home edit [] some = absurd (false≢true some)
+meant_some home edit (e ∷ es) some = refl
+
 removes_lines : (depth : ℕ) (home : Package) (edit : ListEdit) (lines old new : List ℕ) (told : Option EditedList) → IfSome told (EditsElements depth home (no_new edit) lines old new)
     → IfSome told (RemovesFromLines (read_alone depth home lines) (sought edit) old new)
 removes_lines depth home edit lines old new None known = tt
@@ -67,12 +81,11 @@ removes_lines depth home edit lines old new (Some Unchanged) stays =
     λ args reads. ap (removes home (Named edit.attr.now) (edit.word.now ∷ [])) (a.same args reads) ∙ removes_is home edit a.name a.notes a.elements a.suffix a.named ∙ stays.none
 removes_lines depth home edit lines old new (Some Written) put =
     let a = put.list in
-    let removed = remove_is home edit a.name a.notes a.elements a.suffix a.named put.left in (
+    let removed = remove_is home edit a.name a.notes a.elements a.suffix a.named (meant_some home (no_new edit) a.elements put.some) in (
       put.written,
       put.put,
       λ args reads. subst (λ xs. IsRemoved home (sought edit) xs put.written) (sym (a.same args reads)) (record {
         removed = removes_is home edit a.name a.notes a.elements a.suffix a.named ∙ put.some;
-        some = ap is_empty removed;
         lines_are = put.lines_are ∙ ap argument_lines (sym removed);
       }),
     )

@@ -1,5 +1,6 @@
 -- What `replace` of a value makes of an argument whose value is one list of strings.
 use Rattle.std.proofs.Common.{◌≡◌, ℕ, List, [], ◌∷◌, ◌++◌, Bool, true, false, ◌||◌, refl, sym, ap, ◌∙◌, subst, bytes_eq, map}
+use Rattle.std.proofs.lemmas.Bool.{false≢true}
 use Rattle.std.specs.Prelude.{codes, Option, None, Some, Result, Ok, Err, IfOk, IfSome, if◌then◌else◌}
 use Rattle.std.specs.List.{list_any}
 use Rattle.bz_token.specs.Common.{is_empty, map_or}
@@ -19,9 +20,9 @@ use Rattle.bz_canonical.specs.declared.edited.ListEdit.{ListEdit}
 use Rattle.bz_canonical.specs.declared.edited.NewString.{NewString}
 use Rattle.bz_rule.specs.declared.forms.ReplacedValue.{ReplacedValue}
 use Rattle.bz_canonical.specs.private.Added.{list_arg}
-use Rattle.bz_canonical.specs.private.Edited.{EditsElements, edited, have_meant, is_meant}
+use Rattle.bz_canonical.specs.private.Edited.{EditsElements, become, edited, have_meant, is_meant}
 use Rattle.bz_canonical.specs.private.Elements.{Element, element_segs}
-use Rattle.bz_canonical.proofs.EditedLines.{segment_of}
+use Rattle.bz_canonical.proofs.EditedLines.{args_some, segment_of}
 use Rattle.bz_canonical.proofs.GroupSegments.{or_no}
 use Rattle.bz_canonical.proofs.ListLines.{first_is}
 
@@ -62,6 +63,16 @@ replaces_is home edit new word notes es suffix named =
     ∙ or_no (list_any (is_replaced home edit.word.now new.value.now) (segments (element_segs es))) ∙ have_is home edit new es
 
 -- what is made of its lines
+
+-- none goes
+some_replaced : (home : Package) (edit : ListEdit) (new : NewString) (es : List Element) → have_meant home (replacing edit new) es ≡ true → is_empty (edited home (replacing edit new) es) ≡ false
+some_replaced home edit new [] some = absurd (false≢true some)
+some_replaced home edit new (e ∷ es) some = by (is_meant home (replacing edit new) e.token)
+  where
+    by : (b : Bool) → is_empty ((if b then become (Some new) e else e ∷ []) ++ edited home (replacing edit new) es) ≡ false
+    by true = refl
+    by false = refl
+
 replaces_lines : (depth : ℕ) (home : Package) (edit : ListEdit) (new : NewString) (lines before after : List ℕ) (told : Option EditedList) → IfSome told (EditsElements depth home (replacing edit new) lines before after)
     → IfSome told (ReplacesInLines (read_alone depth home lines) (replaced_by edit new) before after)
 replaces_lines depth home edit new lines before after None known = tt
@@ -75,8 +86,7 @@ replaces_lines depth home edit new lines before after (Some Written) put =
       put.put,
       λ args reads. subst (λ xs. IsReplaced home (replaced_by edit new) xs put.written) (sym (a.same args reads)) (record {
         replaced = replaces_is home edit new a.name a.notes a.elements a.suffix a.named ∙ put.some;
-        some = ap is_empty is;
-        lines_are = put.lines_are ∙ ap argument_lines (sym is);
+        lines_are = put.lines_are ∙ ap argument_lines (args_some a.notes a.name (edited home (replacing edit new) a.elements) a.suffix (some_replaced home edit new a.elements put.some) ∙ sym is);
       }),
     )
 

@@ -1,7 +1,7 @@
 -- Whether a value is in an argument that has these lines, and what `add` of it makes of the lines (this project's own rule).
 -- Begin with `AddsToLines`.
 use Rattle.std.specs.Prelude.{◌≡◌, ℕ, List, [], ◌∷◌, ◌++◌, true, false, None}
-use Rattle.bz_token.specs.Common.{is_empty, map_or}
+use Rattle.bz_token.specs.Common.{map_or}
 use Rattle.bz_tree.specs.Tree.{Segment}
 use Rattle.bz_label.specs.Labels.{Package}
 use Rattle.bz_rule.specs.Add.{add, adds}
@@ -22,7 +22,6 @@ pub record IsPresent (home : Package) (sought : ListValue) (args : List Segment)
 pub record IsNew (home : Package) (new : ListValue) (args : List Segment) (lines : List ℕ) : Type 0 where
   pub list : not_a_list new.attr.now (first_named new.attr.now args) ≡ None
   pub new_is : adds home (new.value.now ∷ []) (first_named new.attr.now args) ≡ true
-  pub some : is_empty (add home new.attr.now (new.value.now ∷ []) args) ≡ false
   pub lines_are : lines ≡ argument_lines (add home new.attr.now (new.value.now ∷ []) args)
 
 -- of the arguments that are read of these lines alone; what is written stands after what was in the buffer before

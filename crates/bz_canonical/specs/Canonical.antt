@@ -1,5 +1,5 @@
 -- What is known of the chunk that a text begins with, where it stands as it would be written.
-use Rattle.std.specs.Prelude.{◌≡◌, ◌<◌, ℕ, List, [], ◌∷◌, ◌++◌, codes, length, true, false, Option, None, Some, IfSome, option_to_list}
+use Rattle.std.specs.Prelude.{◌≡◌, ◌<◌, ℕ, List, [], ◌∷◌, ◌++◌, codes, length, Bool, true, false, Option, None, Some, IfSome, option_to_list}
 use Rattle.bz_token.specs.declared.token.Kind.TheVariants.{Identifier}
 use Rattle.bz_token.specs.Cuts.{IsChunk}
 use Rattle.bz_tree.specs.declared.tree.Class.{Class}
@@ -81,14 +81,15 @@ pub record AloneLines : Type 0 where
 abbrev pub read_alone : ℕ → Package → List ℕ → AloneLines
 read_alone depth home lines = record { depth = depth; home = home; lines = lines }
 
--- what is written before an argument, its lines as they stand, and what is written after it
+-- what is written before an argument, its lines as they stand, and what is written after it; whether the rule stays on lines where the argument goes
 pub record Between : Type 0 where
   pub before : List ℕ
   pub lines : List ℕ
   pub after : List ℕ
+  pub may_go : Bool
 
 abbrev pub between : ArgumentPlace → Between
-between place = record { before = place.before.now; lines = place.lines.now; after = place.after.now }
+between place = record { before = place.before.now; lines = place.lines.now; after = place.after.now; may_go = place.may_go }
 
 -- The lines are those of the first argument of this name in a rule, or there is none. Its tokens and comments are texts of their
 -- kinds. An edit that looks at it alone changes what is written of it alone.
@@ -98,7 +99,7 @@ pub record HasPlace (depth : ℕ) (attr : List ℕ) (s : Statement) (place : Bet
   pub none : is_empty place.lines ≡ is_empty (first_args attr s)
   pub reads : AreReadAlone depth place.lines (first_args attr s)
   pub texts : SegsHaveTexts (segs_of (first_args attr s))
-  pub takes : (f : List Segment → List Segment) → IsLocal attr f → is_empty (f (first_args attr s)) ≡ false
+  pub takes : (f : List Segment → List Segment) → IsLocal attr f → (is_empty (f (first_args attr s)) ≡ true → place.may_go ≡ true)
       → layout_text (with_args f s) ≡ place.before ++ (argument_lines (f (first_args attr s)) ++ place.after)
 
 -- The chunk is read as a statement of this class and name, of which `text` is written. Its first line has this number. A kind is

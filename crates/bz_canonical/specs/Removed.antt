@@ -1,7 +1,6 @@
 -- What `remove` of one value makes of an argument that has these lines (this project's own rule).
 -- Begin with `RemovesFromLines`.
 use Rattle.std.specs.Prelude.{◌≡◌, ℕ, List, [], ◌∷◌, ◌++◌, true, false}
-use Rattle.bz_token.specs.Common.{is_empty}
 use Rattle.bz_tree.specs.Tree.{Segment}
 use Rattle.bz_label.specs.Labels.{Package}
 use Rattle.bz_label.specs.declared.arguments.Attributes.TheVariants.{Named}
@@ -11,10 +10,9 @@ use Rattle.bz_rule.specs.declared.forms.ListValue.{ListValue}
 use Rattle.bz_canonical.specs.declared.edited.EditedList.{EditedList}
 use Rattle.bz_canonical.specs.declared.edited.EditedList.TheVariants.{Unchanged, Written}
 
--- an element equals the value: the arguments, without those that do, have these lines
+-- an element equals the value: the arguments, without those that do, have these lines, or none
 pub record IsRemoved (home : Package) (old : ListValue) (args : List Segment) (lines : List ℕ) : Type 0 where
   pub removed : removes home (Named old.attr.now) (old.value.now ∷ []) args ≡ true
-  pub some : is_empty (remove home (Named old.attr.now) (old.value.now ∷ []) args) ≡ false
   pub lines_are : lines ≡ argument_lines (remove home (Named old.attr.now) (old.value.now ∷ []) args)
 
 -- of the arguments that are read of these lines alone; what is written stands after what was in the buffer before

@@ -1,7 +1,6 @@
 -- What `replace` of a value makes of an argument that has these lines (this project's own rule).
 -- Begin with `ReplacesInLines`.
 use Rattle.std.specs.Prelude.{◌≡◌, ℕ, List, ◌++◌, true, false}
-use Rattle.bz_token.specs.Common.{is_empty}
 use Rattle.bz_tree.specs.Tree.{Segment}
 use Rattle.bz_label.specs.Labels.{Package}
 use Rattle.bz_label.specs.declared.arguments.Attributes.TheVariants.{Named}
@@ -14,7 +13,6 @@ use Rattle.bz_rule.specs.declared.forms.ReplacedValue.{ReplacedValue}
 -- an element is replaced: the arguments, with those that are, have these lines
 pub record IsReplaced (home : Package) (value : ReplacedValue) (args : List Segment) (lines : List ℕ) : Type 0 where
   pub replaced : replaces home (Named value.attr.now) value.old.now value.new.now args ≡ true
-  pub some : is_empty (replace home (Named value.attr.now) value.old.now value.new.now args) ≡ false
   pub lines_are : lines ≡ argument_lines (replace home (Named value.attr.now) value.old.now value.new.now args)
 
 -- of the arguments that are read of these lines alone; what is written stands after what was in the buffer before

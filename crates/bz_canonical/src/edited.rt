@@ -1,19 +1,20 @@
 //! Elements of a list of strings that go or become another, by the lines of the argument whose value the list is.
 //! `removed.rt` and `replaced.rt` say which. `added.rt` asks whether one equals a value.
 
-ghost use Rattle.std.specs.Prelude.{◌≡◌, ◌++◌, ℕ, List, IfOk, IfSome, IsTrue, not, ◌&&◌};
-ghost use Rattle.bz_canonical.specs.private.Edited.{AreElementsEdited, EditsElements, IsListEdited, PassesElement, is_meant, one_more};
+ghost use Rattle.std.specs.Prelude.{◌≡◌, ◌∷◌, ◌++◌, [], ℕ, List, IfOk, IfSome, IsTrue, length, not, ◌&&◌};
+ghost use Rattle.bz_layout.specs.Pieces.{indent};
+ghost use Rattle.bz_canonical.specs.private.Edited.{AreElementsEdited, EditsElements, EndsList, IsListEdited, PassesElement, is_meant, one_more};
 
 use crate::Known;
 use crate::added::{is_value, list_of};
-use crate::arguments::Pending;
+use crate::arguments::{Pending, written_len};
 use crate::front::before;
 use crate::lists::{
     ReadElement, after_elements, is_last, is_on_lines, put_element, put_element_as, read_element,
 };
 use crate::value::either;
 use bz_label::{Package, has_value, quote};
-use bz_memory::{NoMemory, extend_from_slice};
+use bz_memory::{NoMemory, extend_from_slice, push};
 use std::alloc::Global;
 
 /// What a command makes of an argument whose value is one list of strings.
@@ -21,7 +22,7 @@ use std::alloc::Global;
 pub enum EditedList {
     /// It stays.
     Unchanged,
-    /// Its lines are in the buffer, after what was there.
+    /// Its lines are in the buffer, after what was there. It goes where they are none.
     Written,
 }
 
@@ -43,8 +44,8 @@ pub(crate) struct NewString<'c> {
 }
 
 /// What the command makes of the argument that has these lines, where its value is one list of strings. `Written`: the
-/// lines that it has then are in the buffer, after its bytes. None: it may be no such list, or one that is left with no
-/// two elements. Without `Written` nothing is said of the buffer's bytes. Err: memory is wanting.
+/// lines that it has then are in the buffer, after its bytes: none if no element is left. None: it may be no such list.
+/// Without `Written` nothing is said of the buffer's bytes. Err: memory is wanting.
 pub(crate) fn put_edited(
     home: &Package,
     lines: &str,
@@ -55,21 +56,71 @@ pub(crate) fn put_edited(
     ensures { IfOk result (λ known. IfSome known
         (EditsElements max_depth home.now edit.entry lines.now written.old.items written.new.items)) }
 {
-    let Some(list) = put_list_edited(home, lines, edit, max_depth, written)? else {
+    let from = lines.as_bytes();
+    let Some(rest) = list_of(from, edit.attr.as_bytes(), max_depth) else {
         return Ok(None);
     };
+    let at = Pending { from, rest };
+    let begun = written.len();
+    let Some(start) = written_len(at, written) else {
+        return Ok(None);
+    };
+    let Some(list) = put_elements_edited(home, at, edit, written)? else {
+        return Ok(None);
+    };
+    if !is_last(list.end) {
+        return Ok(None);
+    }
     if !list.passed.meant {
         return Ok(Some(EditedList::Unchanged));
-    }
-    if !list.passed.several {
-        return Ok(None);
     }
     if !put_pending(list.passed.at, written)? {
         return Ok(None);
     }
-    extend_from_slice(written, b"\n    ]".as_slice())?;
-    extend_from_slice(written, list.end)?;
+    if !list.passed.left {
+        written.truncate(begun);
+        return Ok(Some(EditedList::Written));
+    }
+    if !end_list(list, start, written)? {
+        return Ok(None);
+    }
     Ok(Some(EditedList::Written))
+}
+
+/// Writes what follows the elements that are left, which end the buffer: on lines of their own, from here on. One alone
+/// without a comment is put in place. False: there is none.
+fn end_list(list: PassedList<'_>, start: usize, written: &mut Vec<u8>) -> Result<bool, NoMemory>
+    ensures { IfOk result (λ ended. IsTrue ended
+        → EndsList list.entry start written.old.items written.new.items) }
+{
+    if list.passed.broken {
+        extend_from_slice(written, b"\n    ]".as_slice())?;
+        extend_from_slice(written, list.end)?;
+        return Ok(true);
+    }
+    if !put_in_place(start, written)? {
+        return Ok(false);
+    }
+    extend_from_slice(written, list.end)?;
+    Ok(true)
+}
+
+/// Puts the one element in place that ends the buffer, on a line of its own from here on, and the bracket after it.
+/// False: it is not there.
+fn put_in_place(start: usize, written: &mut Vec<u8>) -> Result<bool, NoMemory>
+    ensures { IfOk result (λ put. IsTrue put → (front token : List ℕ) → length front ≡ start
+        → written.old.items ≡ front ++ (10 ∷ (indent 2 ++ (token ++ 44 ∷ [])))
+        → written.new.items ≡ front ++ (token ++ 93 ∷ [])) }
+{
+    // A newline and an indent stand before it, and a comma after it.
+    let len = written.len();
+    if len < 10 || start > len - 10 {
+        return Ok(false);
+    }
+    written.copy_within(start + 9..len - 1, start);
+    written.truncate(len - 10);
+    push(written, b']')?;
+    Ok(true)
 }
 
 /// Elements of a list that were passed. The lines of those that are left are in the buffer, or pending.
@@ -82,22 +133,22 @@ pub(crate) struct Passed<'t> {
     pub(crate) meant: bool,
     /// One at least is left.
     left: bool,
-    /// Two at least are left.
-    several: bool,
+    /// What is left stands on lines: there are two at least, or one has a comment.
+    broken: bool,
 }
 
 impl<'t> Passed<'t> {
-    /// One was passed more, and one is left more.
+    /// One was passed more, and one is left more, which has a comment or none.
     #[inline(always)]
-    fn with_one(self, at: Pending<'t>, meant: bool) -> Passed<'t>
-        ensures { result ≡ one_more self.entry at.entry meant }
+    fn with_one(self, at: Pending<'t>, meant: bool, noted: bool) -> Passed<'t>
+        ensures { result ≡ one_more self.entry at.entry meant noted }
     {
         Passed {
             at,
             one: true,
             meant: either(self.meant, meant),
             left: true,
-            several: either(self.several, self.left),
+            broken: either(self.broken, either(self.left, noted)),
         }
     }
 }
@@ -151,7 +202,7 @@ fn put_elements_edited<'t>(
         one: false,
         meant: false,
         left: false,
-        several: false,
+        broken: false,
     };
     for _ in 0..begun.rest.len() {
         if let Some(end) = after_elements(passed.at.rest, lines) {
@@ -200,7 +251,7 @@ fn pass_element<'t>(
             from: passed.at.from,
             rest: next.rest,
         };
-        return Ok(Some(passed.with_one(at, false)));
+        return Ok(Some(passed.with_one(at, false, next.noted)));
     }
     if !put_pending(passed.at, written)? {
         return Ok(None);
@@ -211,7 +262,7 @@ fn pass_element<'t>(
     };
     if !meant {
         put_element(next, written)?;
-        return Ok(Some(passed.with_one(at, false)));
+        return Ok(Some(passed.with_one(at, false, next.noted)));
     }
     let Some(new) = edit.new else {
         return Ok(Some(Passed {
@@ -219,12 +270,12 @@ fn pass_element<'t>(
             one: true,
             meant: true,
             left: passed.left,
-            several: passed.several,
+            broken: passed.broken,
         }));
     };
     let literal = quote(new.alloc, new.value)?;
     put_element_as(next, literal.as_bytes(), written)?;
-    Ok(Some(passed.with_one(at, true)))
+    Ok(Some(passed.with_one(at, true, next.noted)))
 }
 
 /// Writes what is pending. False: more is to be read than the text has.

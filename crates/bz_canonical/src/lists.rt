@@ -146,7 +146,7 @@ pub(crate) struct ReadElement<'t> {
     /// What follows it.
     pub(crate) rest: &'t [u8],
     /// A comment stands above it or beside it.
-    noted: bool,
+    pub(crate) noted: bool,
     /// It stands otherwise than it is written on lines.
     pub(crate) otherwise: bool,
 }

@@ -18,6 +18,8 @@ pub struct ArgumentPlace<'t> {
     pub before: &'t str,
     pub lines: &'t str,
     pub after: &'t str,
+    /// Where the argument goes, the others keep the rule on lines: they are two at least.
+    pub may_go: bool,
 }
 
 /// The place of the first argument that has the name at this position among those that are asked for. Where there is
@@ -43,6 +45,7 @@ pub fn argument_place<'t>(
         before,
         lines,
         after,
+        may_go: rule.spans.len() > 2,
     })
 }
 

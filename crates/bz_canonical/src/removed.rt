@@ -11,7 +11,7 @@ use bz_rule::forms::ListValue;
 
 /// What `remove` makes of the argument that has these lines, where its value is one list of strings (`execute_on_list`
 /// of bz_engine asks). `Unchanged`: no element equals the value. `Written`: those that do are gone, and the lines are in
-/// the buffer, after its bytes. None: it may be no such list, or one that is left with no two elements. Without
+/// the buffer, after its bytes, or none where the argument goes with them. None: it may be no such list. Without
 /// `Written` nothing is said of the buffer's bytes. Err: memory is wanting.
 pub fn put_removed(
     home: &Package,

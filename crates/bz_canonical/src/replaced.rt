@@ -12,8 +12,7 @@ use bz_rule::forms::ReplacedValue;
 /// What `replace` makes of the argument that has these lines, where its value is one list of strings
 /// (`execute_on_list` of bz_engine asks). `Unchanged`: no element equals the old value, but those that are exactly the
 /// new one. `Written`: those that do are the new value, and the lines are in the buffer, after its bytes. None: it may
-/// be no such list, or one that has no two elements. Without `Written` nothing is said of the buffer's bytes. Err:
-/// memory is wanting.
+/// be no such list. Without `Written` nothing is said of the buffer's bytes. Err: memory is wanting.
 pub fn put_replaced(
     env: Env<'_>,
     lines: &str,

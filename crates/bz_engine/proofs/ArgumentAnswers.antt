@@ -1,7 +1,9 @@
 -- What a command that looks at one argument alone makes of its lines, and so of the rule.
 use Rattle.std.proofs.Common.{◌≡◌, ℕ, ◌-◌, Bool, ◌&&◌, ◌||◌, not, true, false, List, [], ◌∷◌, ◌++◌, length, take, refl, sym, ◌∙◌, ap, subst, arith, append_assoc, append-nil, if◌then◌else◌}
 use Rattle.std.proofs.lemmas.Bool.{false≢true}
-use Rattle.std.specs.Prelude.{codes, option_to_list, Option, None, Some, Result, Ok, Err, IfOk, IfSome}
+use Rattle.std.proofs.lemmas.List.{length-append}
+use Rattle.std.proofs.lemmas.Bool.Decides.{nat_tests}
+use Rattle.std.specs.Prelude.{codes, nat_lt, option_to_list, Option, None, Some, Result, Ok, Err, IfOk, IfSome}
 use Rattle.bz_tree.specs.Tree.{Segment, Statement}
 use Rattle.bz_layout.specs.Gaps.{gap_text, lines_before}
 use Rattle.bz_layout.specs.Layout.{layout_text}
@@ -27,7 +29,7 @@ use Rattle.bz_canonical.specs.Commented.{TakesComment, commented}
 use Rattle.bz_canonical.specs.Added.{AddsToLines, LacksInLines}
 use Rattle.bz_canonical.specs.Removed.{RemovesFromLines}
 use Rattle.bz_canonical.specs.Replaced.{ReplacesInLines}
-use Rattle.bz_canonical.specs.Canonical.{AloneLines, AreReadAlone, Between, HasPlace, argument_lines, first_args, rule_args}
+use Rattle.bz_canonical.specs.Canonical.{AloneLines, AreReadAlone, Between, HasPlace, argument_lines, first_args, read_alone, rule_args}
 use Rattle.bz_rule.specs.declared.command.Action.TheVariants.{Add, Comment, Remove, Replace}
 use Rattle.bz_rule.specs.Commands.{Command, after, args_after, args_done, done_of}
 use Rattle.bz_rule.specs.OneAttribute.{one_attribute}
@@ -44,7 +46,12 @@ use Rattle.bz_token.specs.Common.{is_empty, map_or}
 
 -- what is added where none has the name
 pub adds_list : (attr value lines : List ℕ) → lines ≡ argument_lines (list_argument attr value ∷ []) → AddsArgument (Add attr (value ∷ [])) lines
-adds_list attr value lines lines_are = λ home. record { told = refl; some = refl; lines_are = lines_are }
+adds_list attr value lines lines_are = λ home. record { told = refl; goes = λ none. none; lines_are = lines_are }
+
+-- where no argument is left, there are no lines
+no_lines : (args : List Segment) (lines : List ℕ) → lines ≡ argument_lines args → is_empty args ≡ true → is_empty lines ≡ true
+no_lines [] lines lines_are none = ap is_empty lines_are
+no_lines (a ∷ args) lines lines_are none = absurd (false≢true none)
 
 -- what is added to a list
 adds_listed : (alone : AloneLines) (value : ListValue) (before after : List ℕ) (edited : EditedList) → AddsToLines alone value before after edited → EditsList (Add value.attr.now (value.value.now ∷ [])) alone before after edited
@@ -54,7 +61,7 @@ adds_listed alone value before after Listed adds = (
   adds.1,
   λ args reads.
       let is = adds.2 args reads in
-      record { told = λ i. done (is.list i) (is.new_is i); some = is.some; lines_are = is.lines_are },
+      record { told = λ i. done (is.list i) (is.new_is i); goes = no_lines _ _ is.lines_are; lines_are = is.lines_are },
 )
 
 pub adds_to_list : {E : Type 0} (command : Command) (alone : AloneLines) (value : ListValue) (before after : List ℕ) → command ≡ Add value.attr.now (value.value.now ∷ []) → (r : Result (Option EditedList) E)
@@ -95,7 +102,7 @@ replaces_listed alone value before after Listed replaces = (
   replaces.1,
   λ args reads.
       let is = replaces.2 args reads in
-      record { told = ap (done None) is.replaced; some = is.some; lines_are = is.lines_are },
+      record { told = ap (done None) is.replaced; goes = no_lines _ _ is.lines_are; lines_are = is.lines_are },
 )
 
 pub replaces_in_list : {E : Type 0} (alone : AloneLines) (value : ReplacedValue) (before after : List ℕ) (r : Result (Option EditedList) E) → IfOk r (λ known. IfSome known (ReplacesInLines alone value before after))
@@ -113,7 +120,7 @@ removes_listed alone value before after Listed removes = (
   removes.1,
   λ args reads.
       let is = removes.2 args reads in
-      record { told = ap (done None) is.removed; some = is.some; lines_are = is.lines_are },
+      record { told = ap (done None) is.removed; goes = no_lines _ _ is.lines_are; lines_are = is.lines_are },
 )
 
 pub removes_from_list : {E : Type 0} (alone : AloneLines) (value : ListValue) (before after : List ℕ) (r : Result (Option EditedList) E) → IfOk r (λ known. IfSome known (RemovesFromLines alone value before after))
@@ -132,9 +139,42 @@ pub list_put : (old a b c d new attr value A Q : List ℕ) → a ≡ old ++ code
     → new ≡ old ++ argument_lines (list_argument attr value ∷ [])
 list_put old a b c d new attr value A Q ha hb hA hc hd hQ hn = rw (hn, hd, hQ, hc, hb, hA, ha, list_line attr value) (simp append_assoc)
 
-pub adds_to_none : (depth : ℕ) (command : Command) (home : Package) (lines : List ℕ) (new : List ℕ) → length lines ≡ 0 → AddsArgument command new
-    → (args : List Segment) → is_empty lines ≡ is_empty args → AreReadAlone depth lines args → ChangesArgs command home args new
-adds_to_none depth command home lines new none adds args empty reads = subst (λ xs. ChangesArgs command home xs new) (sym (no_args lines args empty none)) (adds home)
+-- what may go more often
+changes_more : (command : Command) (home : Package) (b may_go : Bool) (args : List Segment) (lines : List ℕ) → (b ≡ true → may_go ≡ true) → ChangesArgs command home b args lines → ChangesArgs command home may_go args lines
+changes_more command home b may_go args lines more c = record { told = c.told; goes = λ none. more (c.goes none); lines_are = c.lines_are }
+
+pub adds_to_none : (depth : ℕ) (command : Command) (home : Package) (place : Between) (new : List ℕ) → length place.lines ≡ 0 → AddsArgument command new
+    → (args : List Segment) → is_empty place.lines ≡ is_empty args → AreReadAlone depth place.lines args → ChangesArgs command home place.may_go args new
+adds_to_none depth command home place new none adds args empty reads =
+    subst (λ xs. ChangesArgs command home place.may_go xs new) (sym (no_args place.lines args empty none)) (changes_more command home false place.may_go [] new (λ no. absurd (false≢true no)) (adds home))
+
+-- the lines are some, or there may be none
+none_long : (xs : List ℕ) → is_empty xs ≡ true → length xs ≡ 0
+none_long [] none = refl
+none_long (x ∷ xs) none = absurd (false≢true none)
+
+pub lists_on_lines : (depth : ℕ) (command : Command) (home : Package) (place : Between) (after : List ℕ) (some : Bool) → (length after ≡ 0 → some ≡ false) → (some ≡ false → place.may_go ≡ true)
+    → EditsList command (read_alone depth home place.lines) [] after Listed → (args : List Segment) → is_empty place.lines ≡ is_empty args → AreReadAlone depth place.lines args → ChangesArgs command home place.may_go args after
+lists_on_lines depth command home place after some none may edits args empty reads =
+    subst (ChangesArgs command home place.may_go args) (sym edits.1)
+    (changes_more command home (is_empty edits.0) place.may_go args edits.0 (λ gone. may (none (ap length edits.1 ∙ none_long edits.0 gone))) (edits.2 args reads))
+
+pub lists_in_place : (depth : ℕ) (command : Command) (home : Package) (place : Between) (old front after new : List ℕ) (begun : ℕ) → begun ≡ length front → front ≡ old ++ place.before → (nat_lt begun (length after) ≡ false → place.may_go ≡ true)
+    → EditsList command (read_alone depth home place.lines) front after Listed → new ≡ after ++ place.after → EditsPlace depth command home place old new Listed
+lists_in_place depth command home place old front after new begun begun_is front_is may edits new_is = (
+  edits.0,
+  new_is ∙ (λ i. (edits.1 ∙ ap (λ (t : List ℕ). t ++ edits.0) front_is) i ++ place.after) ∙ joined place.before edits.0 place.after,
+  λ args reads. changes_more command home (is_empty edits.0) place.may_go args edits.0 (λ gone. may (same_long (length after) (long (none_long edits.0 gone)))) (edits.2 args reads),
+)
+  where
+    joined : (B W A : List ℕ) → ((old ++ B) ++ W) ++ A ≡ old ++ (B ++ (W ++ A))
+    joined B W A = simp append_assoc
+
+    long : length edits.0 ≡ 0 → length after ≡ begun
+    long gone = omega (arith, ap length edits.1, length-append front edits.0, gone, begun_is)
+
+    same_long : (n : ℕ) → n ≡ begun → nat_lt begun n ≡ false
+    same_long n is = grind (arith, nat_tests, is)
 
 -- so of the rule
 told_first : (attr : List ℕ) (g : List Segment → Done) (args : List Segment) → LooksAt attr g → g (option_to_list (first_named attr args)) ≡ g args
@@ -154,17 +194,17 @@ args_told command attr home s one rule =
     (ap (λ o. args_done command home (option_to_list (first_named attr (rule_args o)))) rule.1 ∙ told_first attr (args_done command home) rule.0.args law.told)
 
 pub argument_stays : (depth : ℕ) (command : Command) (attr : List ℕ) (home : Package) (s : Statement) (place : Between) → one_attribute command ≡ Some attr → (r : Rule) × (rule_of s.nodes ≡ Some r) → HasPlace depth attr s place
-    → EditsLines depth command home place.lines Unchanged → Makes command home s s (told_line false None)
+    → EditsLines depth command home place Unchanged → Makes command home s s (told_line false None)
 argument_stays depth command attr home s place one rule has stays = stays_by command home s (args_told command attr home s one rule ∙ stays (first_args attr s) has.none has.reads)
 
 pub argument_changes : (depth : ℕ) (command : Command) (attr : List ℕ) (home : Package) (s : Statement) (place : Between) (lines : List ℕ) → one_attribute command ≡ Some attr → (r : Rule) × (rule_of s.nodes ≡ Some r) → HasPlace depth attr s place
-    → ((args : List Segment) → is_empty place.lines ≡ is_empty args → AreReadAlone depth place.lines args → ChangesArgs command home args lines)
+    → ((args : List Segment) → is_empty place.lines ≡ is_empty args → AreReadAlone depth place.lines args → ChangesArgs command home place.may_go args lines)
     → Makes command home s (with_args (args_after command home) s) (told_line true None) × (layout_text (with_args (args_after command home) s) ≡ place.before ++ (lines ++ place.after))
 argument_changes depth command attr home s place lines one rule has changes =
     let law = local command home attr one in
     let made = changes (first_args attr s) has.none has.reads in (
       record { after_is = law.slot s; done = args_told command attr home s one rule ∙ made.told },
-      has.takes (args_after command home) law.args made.some ∙ ap (λ (t : List ℕ). place.before ++ (t ++ place.after)) (sym made.lines_are),
+      has.takes (args_after command home) law.args made.goes ∙ ap (λ (t : List ℕ). place.before ++ (t ++ place.after)) (sym made.lines_are),
     )
 
 -- a list whose lines stand in the text of the rule

@@ -1,7 +1,7 @@
 //! What a command makes of the lines of an argument, which is not read. `marked_rule.rt` calls `execute_on_lines` for a
 //! rule of which it edits one argument.
 
-ghost use Rattle.std.specs.Prelude.{◌≡◌, ◌++◌, ◌∷◌, [], IfOk, IfSome, IsTrue, OnOk};
+ghost use Rattle.std.specs.Prelude.{◌≡◌, ◌++◌, ◌∷◌, [], IfOk, IfSome, IsTrue, OnOk, false, true};
 ghost use Rattle.bz_canonical.specs.Added.{LacksInLines};
 ghost use Rattle.bz_canonical.specs.Canonical.{argument_lines, between, read_alone};
 ghost use Rattle.bz_label.specs.declared.arguments.Attributes.TheVariants.{Named};
@@ -23,7 +23,7 @@ use std::alloc::Global;
 #[derive(Clone, Copy)]
 pub(crate) enum EditedArgument<'s> {
     Unchanged,
-    /// These are its lines, or those of what stands in its place: some.
+    /// These are its lines, or those of what stands in its place. It goes where they are none.
     Lines(&'s [u8]),
 }
 
@@ -50,31 +50,44 @@ pub(crate) fn execute_in_place(
         (between place.entry) written.old.items written.new.items)) }
 {
     extend_from_slice(written, place.before.as_bytes())?;
-    let Some(edited) = execute_on_list(script, command, place.lines, written)? else {
-        return Ok(None);
-    };
-    extend_from_slice(written, place.after.as_bytes())?;
-    Ok(Some(edited))
+    let begun = written.len();
+    match execute_on_list(script, command, place.lines, written)? {
+        Some(EditedList::Unchanged) => Ok(Some(EditedList::Unchanged)),
+        Some(EditedList::Written) if may_stand(place, begun < written.len()) => {
+            extend_from_slice(written, place.after.as_bytes())?;
+            Ok(Some(EditedList::Written))
+        }
+        _ => Ok(None),
+    }
 }
 
-/// What a command makes of the argument that has these lines, or, where they are none, adds to a rule that has no
-/// argument of the name. None: the rule is to be seen.
+/// Lines may stand in this place: some, or none where the argument may go.
+fn may_stand(place: ArgumentPlace<'_>, some: bool) -> bool
+    ensures { IsTrue result → some ≡ false → place.entry.may_go ≡ true }
+{
+    place.may_go || some
+}
+
+/// What a command makes of the argument of this place, or, where it has no lines, adds to a rule that has no argument of
+/// the name. None: the rule is to be seen.
 pub(crate) fn execute_on_lines<'s>(
     script: ScriptRun<'_>,
     command: &Command,
-    lines: &str,
+    place: ArgumentPlace<'_>,
     laid: &'s mut Vec<u8>,
 ) -> Result<Option<EditedArgument<'s>>, NoMemory>
     ensures { IfOk result (λ known. IfSome known
-        (EditsLines script.entry.max_depth command.now script.entry.home.now lines.now)) }
+        (EditsLines script.entry.max_depth command.now script.entry.home.now (between place.entry))) }
 {
     laid.clear();
-    match execute_on_list(script, command, lines, laid)? {
+    match execute_on_list(script, command, place.lines, laid)? {
         Some(EditedList::Unchanged) => return Ok(Some(EditedArgument::Unchanged)),
-        Some(EditedList::Written) => return Ok(Some(EditedArgument::Lines(laid.as_slice()))),
-        None => {}
+        Some(EditedList::Written) if may_stand(place, !laid.is_empty()) => {
+            return Ok(Some(EditedArgument::Lines(laid.as_slice())));
+        }
+        _ => {}
     }
-    if lines.is_empty() && put_new(script.alloc, command, laid)? {
+    if place.lines.is_empty() && put_new(script.alloc, command, laid)? {
         return Ok(Some(EditedArgument::Lines(laid.as_slice())));
     }
     Ok(None)

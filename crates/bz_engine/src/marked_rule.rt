@@ -149,7 +149,7 @@ fn edit_argument(
         return Ok(false);
     };
     let mut spare = progress.take_spare(script.alloc);
-    match execute_on_lines(script, only.command, place.lines, &mut spare.laid)? {
+    match execute_on_lines(script, only.command, place, &mut spare.laid)? {
         None => {
             progress.give_back(spare);
             Ok(false)

@@ -7,6 +7,11 @@ use Rattle.bz_label.specs.Labels.{Package}
 use Rattle.bz_label.specs.Values.{quoted, value_of}
 use Rattle.bz_layout.specs.Respell.{respell}
 use Rattle.bz_attribute.specs.Rules.{is_text}
+use Rattle.bz_tree.specs.Tree.{Segment}
+use Rattle.bz_layout.specs.Pieces.{bytes_of}
+use Rattle.bz_layout.specs.Walked.{item_pieces}
+use Rattle.bz_layout.specs.declared.broken.Style.TheVariants.{Broken}
+use Rattle.bz_layout.specs.declared.spacing.Gap.TheVariants.{Closed}
 use Rattle.bz_canonical.specs.Canonical.{argument_lines}
 use Rattle.bz_canonical.specs.declared.edited.EditedList.{EditedList}
 use Rattle.bz_canonical.specs.declared.edited.EditedList.TheVariants.{Unchanged, Written}
@@ -17,7 +22,7 @@ use Rattle.bz_canonical.specs.declared.edited.PassedList.{PassedList}
 use Rattle.bz_canonical.specs.declared.lists.ReadElement.{ReadElement}
 use Rattle.bz_canonical.specs.declared.arguments.Pending.{Pending}
 use Rattle.bz_canonical.specs.private.Added.{IsListAlone, is_word, list_arg}
-use Rattle.bz_canonical.specs.private.Elements.{ArePassed, Element, IsElementRead, IsLast, closing, element_lines}
+use Rattle.bz_canonical.specs.private.Elements.{ArePassed, Element, IsElementRead, IsLast, closing, are_broken, element_lines, element_list}
 use Rattle.bz_canonical.specs.private.Arguments.{IsHeadRead}
 use Rattle.bz_canonical.specs.private.Pendings.{IsPending}
 
@@ -44,9 +49,9 @@ edited_one home edit e = if is_meant home edit e.token then become edit.new e el
 abbrev pub edited : Package → ListEdit → List Element → List Element
 edited home edit es = flat_map (edited_one home edit) es
 
--- one was passed more, and one is left more
-abbrev pub one_more : Passed → Pending → Bool → Passed
-one_more p at meant = record { at = at; one = true; meant = p.meant || meant; left = true; several = p.several || p.left }
+-- one was passed more, and one is left more, which has a comment or none
+abbrev pub one_more : Passed → Pending → Bool → Bool → Passed
+one_more p at meant noted = record { at = at; one = true; meant = p.meant || meant; left = true; broken = p.broken || (p.left || noted) }
 
 -- all is written: what is in the buffer, and a part that stands as it is written
 abbrev pub IsHeld : List ℕ → List ℕ → Pending → Type 0
@@ -60,7 +65,7 @@ pub record AreEdited (home : Package) (edit : ListEdit) (lines : Bool) (front in
   pub held : IsHeld buffer (front ++ element_lines (respell String) (edited home edit passed.elements)) p.at
   pub meant_is : p.meant ≡ have_meant home edit passed.elements
   pub left_is : p.left ≡ nat_le 1 (length (edited home edit passed.elements))
-  pub several_is : p.several ≡ nat_le 2 (length (edited home edit passed.elements))
+  pub broken_is : p.broken ≡ are_broken (edited home edit passed.elements)
 
 -- one more is passed, which is meant or not
 abbrev pub PassesElement : Passed → ReadElement → Bool → ListEdit → List ℕ → List ℕ → Passed → Type 0
@@ -82,14 +87,24 @@ pub record IsListEdited (depth : ℕ) (home : Package) (edit : ListEdit) (text o
   pub all : AreElementsEdited home edit text inside old buffer list
   pub last : IsLast list.end.now
 
--- its elements are edited, so that some are left, and its lines are written after what was in the buffer
+-- what follows elements is written, which stand on lines after what was in the buffer: the list is then as it is laid out
+abbrev pub EndsList : PassedList → ℕ → List ℕ → List ℕ → Type 0
+EndsList list start old new =
+    (front : List ℕ) (es : List Element) → length front ≡ start → is_empty es ≡ false → list.passed.broken ≡ are_broken es → old ≡ front ++ element_lines (respell String) es
+    → (all : List ℕ) × (bytes_of (item_pieces Broken 1 Closed (element_list es)) ≡ 91 ∷ all) × (new ≡ front ++ (all ++ list.end.now))
+
+-- the argument of elements that are left, or none
+abbrev pub left_args : List (List ℕ) → List ℕ → List Element → Option (List ℕ) → List Segment
+left_args notes word [] suffix = []
+left_args notes word (e ∷ es) suffix = list_arg notes word (e ∷ es) suffix ∷ []
+
+-- its elements are edited, and the lines that it has then are written after what was in the buffer
 pub record IsWritten (depth : ℕ) (home : Package) (edit : ListEdit) (lines old new : List ℕ) : Type 0 where
   pub list : IsListAlone depth edit.attr.now lines
   pub some : have_meant home edit list.elements ≡ true
-  pub left : is_empty (edited home edit list.elements) ≡ false
   pub written : List ℕ
   pub put : new ≡ old ++ written
-  pub lines_are : written ≡ argument_lines (list_arg list.notes list.name (edited home edit list.elements) list.suffix ∷ [])
+  pub lines_are : written ≡ argument_lines (left_args list.notes list.name (edited home edit list.elements) list.suffix)
 
 -- its elements stay as they are
 pub record Stays (depth : ℕ) (home : Package) (edit : ListEdit) (lines : List ℕ) : Type 0 where

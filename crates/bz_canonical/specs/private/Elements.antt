@@ -26,6 +26,10 @@ pub record Element : Type 0 where
 abbrev pub is_noted : Element → Bool
 is_noted e = is_filled e.before || is_some e.suffix
 
+-- a list of these elements is written on lines
+abbrev pub are_broken : List Element → Bool
+are_broken es = list_any is_noted es || nat_le 2 (length es)
+
 abbrev pub AreElements : List Element → Type 0
 AreElements [] = Unit {0}
 AreElements (e ∷ es) = AreComments e.before × (is_text String e.token ≡ true) × AreComments (beside e.suffix) × AreElements es
@@ -85,7 +89,7 @@ pub record ArePassed (lines : Bool) (text rest written : List ℕ) (one broken :
   pub front : text ≡ elements_stand lines elements ++ rest
   pub spells : written ≡ element_lines (respell String) elements
   pub one_is : one ≡ nat_le 1 (length elements)
-  pub broken_is : broken ≡ (list_any is_noted elements || nat_le 2 (length elements))
+  pub broken_is : broken ≡ are_broken elements
 
 -- the list of these elements
 abbrev pub element_segs : List Element → Segs
@@ -109,7 +113,7 @@ pub record AreElementsRead (text rest written : List ℕ) (one broken : Bool) : 
   pub front : 91 ∷ text ≡ bytes_of (item_by (free breaks (elements_as_is elements) own) 1 Closed (element_list elements)) ++ rest
   pub spells : written ≡ element_lines (respell String) elements
   pub one_is : one ≡ nat_le 1 (length elements)
-  pub broken_is : broken ≡ (list_any is_noted elements || nat_le 2 (length elements))
+  pub broken_is : broken ≡ are_broken elements
 
 -- a comma, the comment beside it, and no more
 pub record IsLast (text : List ℕ) : Type 0 where

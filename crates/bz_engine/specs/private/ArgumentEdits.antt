@@ -1,5 +1,5 @@
 -- What a command makes of the lines of an argument, for private clauses.
-use Rattle.std.specs.Prelude.{◌≡◌, ℕ, List, [], ◌∷◌, ◌++◌, false, true, Option, None, Some}
+use Rattle.std.specs.Prelude.{◌≡◌, ℕ, List, [], ◌∷◌, ◌++◌, Bool, false, true, Option, None, Some}
 use Rattle.bz_tree.specs.Tree.{Segment, Statement}
 use Rattle.bz_layout.specs.Layout.{layout_text}
 use Rattle.bz_attribute.specs.declared.done.Done.{Done}
@@ -18,28 +18,28 @@ use Rattle.bz_token.specs.Common.{is_empty}
 abbrev pub list_argument : List ℕ → List ℕ → Segment
 list_argument attr value = argument attr (list_item (string value ∷ []) ∷ [])
 
--- The command changes these arguments into some that have these lines.
-pub record ChangesArgs (command : Command) (home : Package) (args : List Segment) (lines : List ℕ) : Type 0 where
+-- The command changes these arguments into those that have these lines: into some, unless they may go.
+pub record ChangesArgs (command : Command) (home : Package) (may_go : Bool) (args : List Segment) (lines : List ℕ) : Type 0 where
   pub told : args_done command home args ≡ told_line true None
-  pub some : is_empty (args_after command home args) ≡ false
+  pub goes : is_empty (args_after command home args) ≡ true → may_go ≡ true
   pub lines_are : lines ≡ argument_lines (args_after command home args)
 
 -- It adds an argument to those of which none has its name.
 abbrev pub AddsArgument : Command → List ℕ → Type 0
-AddsArgument command lines = (home : Package) → ChangesArgs command home [] lines
+AddsArgument command lines = (home : Package) → ChangesArgs command home false [] lines
 
--- what the command makes of the arguments that are read of these lines alone
-abbrev pub EditsLines : ℕ → Command → Package → List ℕ → EditedArgument → Type 0
-EditsLines depth command home lines Stays = (args : List Segment) → is_empty lines ≡ is_empty args → AreReadAlone depth lines args → args_done command home args ≡ told_line false None
-EditsLines depth command home lines (Lines new) = (args : List Segment) → is_empty lines ≡ is_empty args → AreReadAlone depth lines args → ChangesArgs command home args new.now
+-- what the command makes of the arguments at a place that are read of its lines alone
+abbrev pub EditsLines : ℕ → Command → Package → Between → EditedArgument → Type 0
+EditsLines depth command home place Stays = (args : List Segment) → is_empty place.lines ≡ is_empty args → AreReadAlone depth place.lines args → args_done command home args ≡ told_line false None
+EditsLines depth command home place (Lines new) = (args : List Segment) → is_empty place.lines ≡ is_empty args → AreReadAlone depth place.lines args → ChangesArgs command home place.may_go args new.now
 
 -- what the command makes of a list that is read of these lines alone; what is written stands after what was in the buffer
 abbrev pub EditsList : Command → AloneLines → List ℕ → List ℕ → EditedList → Type 0
 EditsList command alone before after Unchanged = (args : List Segment) → AreReadAlone alone.depth alone.lines args → args_done command alone.home args ≡ told_line false None
-EditsList command alone before after Written = (written : List ℕ) × (after ≡ before ++ written) × ((args : List Segment) → AreReadAlone alone.depth alone.lines args → ChangesArgs command alone.home args written)
+EditsList command alone before after Written = (written : List ℕ) × (after ≡ before ++ written) × ((args : List Segment) → AreReadAlone alone.depth alone.lines args → ChangesArgs command alone.home (is_empty written) args written)
 
 -- what the command makes of the argument at a place; what is written stands between what is before and after it there
 abbrev pub EditsPlace : ℕ → Command → Package → Between → List ℕ → List ℕ → EditedList → Type 0
 EditsPlace depth command home place old new Unchanged = (args : List Segment) → AreReadAlone depth place.lines args → args_done command home args ≡ told_line false None
 EditsPlace depth command home place old new Written =
-    (written : List ℕ) × (new ≡ old ++ (place.before ++ (written ++ place.after))) × ((args : List Segment) → AreReadAlone depth place.lines args → ChangesArgs command home args written)
+    (written : List ℕ) × (new ≡ old ++ (place.before ++ (written ++ place.after))) × ((args : List Segment) → AreReadAlone depth place.lines args → ChangesArgs command home place.may_go args written)

@@ -45,8 +45,8 @@ returns-in_ok-put_canonical-in-Some-Unchanged c =
     is_done (run_of c.args.script) c.args.marked.found.now old c.give_back-in-Some-Unchanged.new.self c.args.text.now.items c.put_canonical.new.text.items fits line (λ s found.
     let rule = marked_rule only.target.now s (one.marked s found) in
     let has : HasPlace depth attr s (between place) = subst (λ (o : Option ArgumentPlace). IfSome (option_map between o) (HasPlace depth attr s)) c.in-Some.ensures.place found.has in
-    let told = subst (EditsLines depth command home place.lines.now) c.in-Some-Unchanged.field-0-is
-    (subst (λ (o : Option EditedArgument). IfSome o (EditsLines depth command home place.lines.now)) c.in-Some-Unchanged.is c.in_ok-execute_on_lines.ensures) in
+    let told = subst (EditsLines depth command home (between place)) c.in-Some-Unchanged.field-0-is
+    (subst (λ (o : Option EditedArgument). IfSome o (EditsLines depth command home (between place))) c.in-Some-Unchanged.is c.in_ok-execute_on_lines.ensures) in
     let makes = argument_stays depth command attr home s (between place) c.in-Some.ensures.attr rule has told in
     laid_as (run_of c.args.script) s old start end c.give_back-in-Some-Unchanged.new.self c.args.text.now.items c.put_canonical.new.text.items
     c.take_spare-spare.ensures c.give_back-in-Some-Unchanged.ensures
@@ -75,8 +75,8 @@ returns-in_ok-put-in-Some-Lines c =
     is_done (run_of c.args.script) c.args.marked.found.now old c.give_back-in-Some-Lines.new.self c.args.text.now.items c.put.new.text.items fits line (λ s found.
     let rule = marked_rule only.target.now s (one.marked s found) in
     let has : HasPlace depth attr s (between place) = subst (λ (o : Option ArgumentPlace). IfSome (option_map between o) (HasPlace depth attr s)) c.in-Some.ensures.place found.has in
-    let told = subst (EditsLines depth command home place.lines.now) c.in-Some-Lines.field-0-is
-    (subst (λ (o : Option EditedArgument). IfSome o (EditsLines depth command home place.lines.now)) c.in-Some-Lines.is c.in_ok-execute_on_lines.ensures) in
+    let told = subst (EditsLines depth command home (between place)) c.in-Some-Lines.field-0-is
+    (subst (λ (o : Option EditedArgument). IfSome o (EditsLines depth command home (between place))) c.in-Some-Lines.is c.in_ok-execute_on_lines.ensures) in
     let t = with_args (args_after command home) s in
     let changed = argument_changes depth command attr home s (between place) c.in-Some-Lines.lines.now c.in-Some.ensures.attr rule has told in
     laid_as (run_of c.args.script) s old start end c.give_back-in-Some-Lines.new.self c.args.text.now.items c.put.new.text.items
