@@ -1,5 +1,5 @@
 -- What a command that looks at one argument alone makes of its lines, and so of the rule.
-use Rattle.std.proofs.Common.{◌≡◌, ℕ, ◌-◌, Bool, ◌&&◌, ◌||◌, not, true, false, List, [], ◌∷◌, ◌++◌, length, take, refl, sym, ◌∙◌, ap, subst, arith, append_assoc, append-nil, if◌then◌else◌}
+use Rattle.std.proofs.Common.{◌≡◌, ℕ, Bool, ◌&&◌, ◌||◌, not, true, false, List, [], ◌∷◌, ◌++◌, length, refl, sym, ◌∙◌, ap, subst, arith, append_assoc, append-nil, if◌then◌else◌}
 use Rattle.std.proofs.lemmas.Bool.{false≢true}
 use Rattle.std.proofs.lemmas.List.{length-append}
 use Rattle.std.proofs.lemmas.Bool.Decides.{nat_tests}
@@ -34,7 +34,7 @@ use Rattle.bz_rule.specs.declared.command.Action.TheVariants.{Add, Comment, Remo
 use Rattle.bz_rule.specs.Commands.{Command, after, args_after, args_done, done_of}
 use Rattle.bz_rule.specs.OneAttribute.{one_attribute}
 use Rattle.bz_rule.proofs.Lawfulness.{local}
-use Rattle.bz_engine.specs.declared.argument.EditedArgument.TheVariants.{Unchanged, Lines}
+use Rattle.bz_engine.specs.declared.argument.EditedArgument.TheVariants.{Unchanged}
 use Rattle.bz_rule.specs.declared.forms.ListValue.{ListValue}
 use Rattle.bz_canonical.specs.declared.edited.EditedList.{EditedList}
 use Rattle.bz_canonical.specs.declared.edited.EditedList.TheVariants.{Unchanged as Unlisted, Written as Listed}

@@ -24,7 +24,7 @@ use Rattle.bz_engine.specs.Outcome.{Run, Script}
 use Rattle.bz_engine.specs.Progress.{Progress}
 use Rattle.bz_engine.specs.declared.canonical.Found.{Found}
 use Rattle.bz_engine.specs.declared.next_chunk.NextChunk.{NextChunk}
-use Rattle.bz_engine.specs.private.Edits.{DoesNothing, EditsChunk, EditsWhole, IsEdited, IsScripted}
+use Rattle.bz_engine.specs.private.Edits.{DoesNothing, EditsChunk, EditsWhole, IsEdited}
 use Rattle.bz_engine.specs.private.Found.{HasItsSpans, IsFoundOn}
 use Rattle.bz_engine.specs.private.NextChunks.{IsFirstEdited, IsKnownEdited}
 use Rattle.bz_engine.specs.private.Rows.{HasKey}

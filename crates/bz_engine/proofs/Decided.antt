@@ -8,7 +8,7 @@ use Rattle.bz_tree.specs.declared.tree.GroupKind.{GroupKind}
 use Rattle.bz_tree.specs.declared.tree.GroupKind.TheVariants as group_kind
 use Rattle.bz_tree.specs.declared.tree.Class.{Class}
 use Rattle.bz_tree.specs.declared.tree.Class.TheVariants as class
-use Rattle.bz_tree.specs.Tree.{Item, leaf, group, Items, no_items, item, Segs, no_segs, seg, Statement, items_of, list_of}
+use Rattle.bz_tree.specs.Tree.{Item, leaf, group, Items, no_items, item, Segs, no_segs, seg, Statement}
 use Rattle.bz_passes.specs.Passes.{Slot}
 
 -- it holds or not

@@ -1,18 +1,15 @@
 -- Where an execution fails, and failures end the run.
 use Rattle.std.proofs.Common.{◌≡◌, ℕ, Bool, true, false, ◌||◌, not, List, [], ◌∷◌, ◌++◌, refl, sym, ◌∙◌, ap, take}
-use Rattle.bz_passes.specs.declared.entry.Entry.TheVariants.{Line}
-use Rattle.std.specs.Prelude.{Option, None, Some, option_to_list, map}
+use Rattle.std.specs.Prelude.{Option, Some, option_to_list}
 use Rattle.std.specs.List.{flat_map}
 use Rattle.std.proofs.lemmas.Bool.{false≢true}
 use Rattle.bz_tree.specs.Tree.{Statement}
 use Rattle.bz_label.specs.Labels.{Package}
-use Rattle.bz_rule.specs.Commands.{Command, done_of}
-use Rattle.bz_attribute.specs.declared.done.Note.{Note}
-use Rattle.bz_attribute.specs.declared.done.Note.TheVariants.{Missing, NoAttribute, AttributeExists, NotAList, NoValue}
+use Rattle.bz_rule.specs.Commands.{Command}
 use Rattle.bz_passes.specs.declared.entry.Entry.{Entry}
 use Rattle.bz_passes.specs.Passes.{Slot}
 use Rattle.bz_passes.specs.Exchange.{Kept, IsLeftBy, log_alone, some_alone}
-use Rattle.bz_engine.specs.Language.{meaning, changes, fails_on, note_told}
+use Rattle.bz_engine.specs.Language.{meaning, changes, fails_on}
 use Rattle.bz_engine.specs.Outcome.{Run}
 use Rattle.bz_passes.specs.Entries.{failure_text}
 use Rattle.bz_engine.specs.Progress.{Progress}
@@ -21,8 +18,6 @@ use Rattle.bz_passes.proofs.Failures.{failures_alone}
 use Rattle.bz_engine.proofs.Failures.{says_failure}
 use Rattle.bz_engine.proofs.OneSlot.{fails_alone, said_alone}
 use Rattle.bz_token.specs.Common.{is_empty}
-use Rattle.bz_attribute.specs.Texts.{shown_text}
-use Rattle.bz_token.specs.Common.{map_or}
 
 nothing_in : (texts : List (List ℕ)) → not (is_empty texts) ≡ false → texts ≡ []
 nothing_in [] h = refl

@@ -1,6 +1,6 @@
 -- Worked examples that compute: texts of messages, the outcome of an empty file, and the exit status.
 use Rattle.std.specs.Prelude.{◌≡◌, ◌↔◌, ℕ, Bool, true, false, List, [], ◌∷◌, None, Some, codes}
-use Rattle.std.proofs.Common.{refl, inl, arith}
+use Rattle.std.proofs.Common.{refl, arith}
 use Rattle.bz_label.specs.Labels.{Package, Target, Name, All}
 use Rattle.bz_rule.specs.declared.command.Action.TheVariants.{Delete}
 use Rattle.bz_attribute.specs.declared.done.Note.TheVariants.{Missing, NoAttribute, AttributeExists, NotAList, NoValue}

@@ -1,6 +1,6 @@
 -- The row that is made of a found rule, and its head, are those of the rule with sealed arguments.
-use Rattle.std.proofs.Common.{◌≡◌, ◌≢◌, ◌≤◌, ◌<◌, ℕ, suc, zero, ◌+◌, List, [], ◌∷◌, ◌++◌, Bool, length, take, drop, get_or, refl, sym, ap, subst, ◌∙◌, arith, append-nil, inl, inr}
-use Rattle.std.specs.Prelude.{Option, None, Some, IsTrue, false, option_map}
+use Rattle.std.proofs.Common.{◌≡◌, ◌≢◌, ◌<◌, ℕ, suc, zero, List, [], ◌∷◌, Bool, length, take, drop, get_or, refl, sym, ap, subst, ◌∙◌, arith, append-nil, inl, inr}
+use Rattle.std.specs.Prelude.{None, Some, IsTrue, false, option_map}
 use Rattle.bz_token.specs.declared.token.Kind.TheVariants.{Identifier}
 use Rattle.bz_token.specs.Places.{line_at}
 use Rattle.bz_tree.specs.declared.row.Row.{Row}

@@ -1,16 +1,14 @@
 -- What a session has done, with one chunk more, and where it ends.
-use Rattle.std.proofs.Common.{◌≡◌, ℕ, ◌+◌, ◌≤◌, Bool, true, false, ◌||◌, not, List, [], ◌∷◌, ◌++◌, length, take, drop, length-append, take-append-drop, refl, sym, ◌∙◌, ap, subst, append-nil, inl, inr, flat_map}
+use Rattle.std.proofs.Common.{◌≡◌, ℕ, ◌+◌, ◌≤◌, true, false, ◌||◌, not, List, [], ◌∷◌, ◌++◌, length, take, drop, length-append, take-append-drop, refl, sym, ◌∙◌, ap, subst, append-nil, flat_map}
 use Rattle.std.specs.Prelude.{◌↔◌, IsTrue, Option, None, Some, Ok, Err}
 use Rattle.bz_token.specs.Chunks.{chunks}
 use Rattle.bz_tree.specs.Tree.{Statement}
 use Rattle.bz_engine.specs.declared.report.SyntaxFault.{SyntaxFault}
-use Rattle.bz_engine.specs.declared.report.End.{End}
 use Rattle.bz_engine.specs.declared.report.End.TheVariants.{Whole, Syntax, FirstFailure}
 use Rattle.bz_devices.specs.Device.{ends}
 use Rattle.bz_devices.specs.Ahead.{Ahead, IsReadOn, IsNextChunk}
 use Rattle.bz_engine.specs.Language.{meaning}
 use Rattle.bz_engine.specs.File.{AreStatementsOf, IsAnswerOf}
-use Rattle.bz_engine.specs.Messages.{fault_text}
 use Rattle.bz_engine.specs.Outcome.{Run, at_a_failure, at_the_end, slots_of, text_after, told_of}
 use Rattle.bz_engine.specs.Scripts.{AreCommands}
 use Rattle.bz_engine.proofs.ChangesLaw.{changes_tell}

@@ -1,5 +1,5 @@
 -- States and answers that differ, and what a session keeps from one call to the next.
-use Rattle.std.proofs.Common.{◌≡◌, ◌≢◌, ℕ, ◌+◌, ◌≤◌, Bool, true, false, List, take, sym, ◌∙◌, ap, subst}
+use Rattle.std.proofs.Common.{◌≡◌, ℕ, ◌+◌, ◌≤◌, Bool, true, false, List, take, sym, ◌∙◌, ap, subst}
 use Rattle.std.specs.Prelude.{Result, Err, OnOk, IfOk}
 use Rattle.std.proofs.lemmas.Bool.{false≢true}
 use Rattle.bz_engine.specs.declared.report.End.{End}

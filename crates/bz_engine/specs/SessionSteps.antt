@@ -1,5 +1,5 @@
 -- What a step of a session does to the file's run, and what its faults tell.
-use Rattle.std.specs.Prelude.{◌≡◌, ◌≢◌, ◌⊎◌, ℕ, ◌+◌, ◌*◌, ◌<◌, ◌≤◌, false, List, [], ◌∷◌, ◌++◌, length, Result, Ok, Err, ⊤}
+use Rattle.std.specs.Prelude.{◌≡◌, ◌≢◌, ◌⊎◌, ℕ, ◌+◌, ◌*◌, ◌<◌, ◌≤◌, List, [], ◌∷◌, ◌++◌, length, Result, Ok, Err}
 use Rattle.bz_devices.specs.Device.{IsCounted}
 use Rattle.bz_devices.specs.Ahead.{IsReadOn, AreNeeded, IsTooLong}
 use Rattle.bz_engine.specs.declared.report.End.{End}

@@ -1,11 +1,9 @@
 -- What a command makes of the lines of an argument, for private clauses.
-use Rattle.std.specs.Prelude.{◌≡◌, ℕ, List, [], ◌∷◌, ◌++◌, Bool, false, true, Option, None, Some}
-use Rattle.bz_tree.specs.Tree.{Segment, Statement}
-use Rattle.bz_layout.specs.Layout.{layout_text}
-use Rattle.bz_attribute.specs.declared.done.Done.{Done}
+use Rattle.std.specs.Prelude.{◌≡◌, ℕ, List, [], ◌∷◌, ◌++◌, Bool, false, true, None}
+use Rattle.bz_tree.specs.Tree.{Segment}
 use Rattle.bz_attribute.specs.Effects.{argument, list_item, string}
 use Rattle.bz_label.specs.Labels.{Package}
-use Rattle.bz_canonical.specs.Canonical.{AloneLines, AreReadAlone, Between, argument_lines, small_text}
+use Rattle.bz_canonical.specs.Canonical.{AloneLines, AreReadAlone, Between, argument_lines}
 use Rattle.bz_canonical.specs.declared.edited.EditedList.{EditedList}
 use Rattle.bz_canonical.specs.declared.edited.EditedList.TheVariants.{Unchanged, Written}
 use Rattle.bz_rule.specs.Commands.{Command, args_after, args_done}

@@ -1,6 +1,6 @@
 -- The attributes that a script mentions, and rules of which other arguments are sealed, for private clauses.
 -- Begin with `asked_names` and `IsSealedRule`.
-use Rattle.std.specs.Prelude.{◌≡◌, ◌≤◌, ◌⊎◌, ℕ, Bool, false, true, ◌&&◌, ◌||◌, if◌then◌else◌, List, [], ◌∷◌, ◌++◌, length, Option, None, Some, codes, nat_le, option_and_then, unwrap_or}
+use Rattle.std.specs.Prelude.{◌≡◌, ◌≤◌, ◌⊎◌, ℕ, Bool, false, true, ◌&&◌, if◌then◌else◌, List, [], ◌∷◌, ◌++◌, length, Option, None, Some, codes, nat_le, option_and_then, unwrap_or}
 use Rattle.std.specs.List.{list_all}
 use Rattle.bz_token.specs.Common.{map_or}
 use Rattle.bz_token.specs.Lexical.{is_one_of}

@@ -1,24 +1,8 @@
-use Rattle.std.proofs.Common.{◌≡◌, [], not, length, arith, subst, sym, tests}
-use Rattle.std.specs.Prelude.{IfSome}
-use Rattle.bz_canonical.specs.Canonical.{between, read_alone}
-use Rattle.bz_canonical.specs.declared.edited.EditedList.TheVariants.{Written}
-use Rattle.bz_engine.specs.private.ArgumentEdits.{AddsArgument, ChangesArgs, EditsList}
-use Rattle.bz_engine.proofs.ArgumentAnswers.{adds_to_none, lists_on_lines}
+use Rattle.std.proofs.Common.{◌≡◌, length, arith, subst, sym, tests}
+use Rattle.bz_canonical.specs.Canonical.{between}
+use Rattle.bz_engine.specs.private.ArgumentEdits.{AddsArgument}
+use Rattle.bz_engine.proofs.ArgumentAnswers.{adds_to_none}
 use Rattle.bz_engine.proofs.argument.execute_on_lines.Goals as goal
-
-pub returns-then-may_stand : goal.returns-then-may_stand
-returns-then-may_stand c = λ args empty reads.
-    let depth = c.args.script.max_depth in
-    let command = c.args.command.now in
-    let home = c.args.script.home.now in
-    let place = between c.args.place in
-    let alone = read_alone depth home place.lines in
-    let begun = c.clear.new.self.items in
-    let laid = c.execute_on_list.new.written.items in
-    let told = subst (EditsList command alone begun laid) c.in-Some-Written.field-0-is (subst (λ o. IfSome o (EditsList command alone begun laid)) c.in-Some-Written.is c.in_ok-execute_on_list.ensures) in
-    let listed = subst (λ t. EditsList command alone t laid Written) c.clear.ensures.items told in
-    subst (ChangesArgs command home place.may_go args) (sym c.as_slice.ensures.value)
-    (lists_on_lines depth command home place laid (not c.is_empty.result) (λ none. grind (arith, tests, c.is_empty.ensures, none)) (c.may_stand.ensures c.if-may_stand.true) listed args empty reads)
 
 pub returns-then-branch : goal.returns-then-branch
 returns-then-branch c =

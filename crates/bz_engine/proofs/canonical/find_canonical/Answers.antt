@@ -1,4 +1,4 @@
-use Rattle.std.proofs.Common.{◌≡◌, ℕ, List, ap, subst, sym, ◌∙◌}
+use Rattle.std.proofs.Common.{List, subst, sym}
 use Rattle.std.specs.Prelude.{IfSome, IsTrue, Option, option_map}
 use Rattle.bz_canonical.specs.Canonical.{IsCanonical}
 use Rattle.bz_canonical.specs.Spans.{AreSpansOf}
