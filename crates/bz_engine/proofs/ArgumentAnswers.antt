@@ -1,9 +1,7 @@
 -- What a command that looks at one argument alone makes of its lines, and so of the rule.
 use Rattle.std.proofs.Common.{◌≡◌, ℕ, Bool, ◌&&◌, ◌||◌, not, true, false, List, [], ◌∷◌, ◌++◌, length, refl, sym, ◌∙◌, ap, subst, arith, append_assoc, append-nil, if◌then◌else◌}
 use Rattle.std.proofs.lemmas.Bool.{false≢true}
-use Rattle.std.proofs.lemmas.List.{length-append}
-use Rattle.std.proofs.lemmas.Bool.Decides.{nat_tests}
-use Rattle.std.specs.Prelude.{codes, nat_lt, option_to_list, Option, None, Some, Result, Ok, Err, IfOk, IfSome}
+use Rattle.std.specs.Prelude.{codes, option_to_list, Option, None, Some, Result, Ok, Err, IfOk, IfSome}
 use Rattle.bz_tree.specs.Tree.{Segment, Statement}
 use Rattle.bz_layout.specs.Gaps.{gap_text, lines_before}
 use Rattle.bz_layout.specs.Layout.{layout_text}
@@ -29,7 +27,7 @@ use Rattle.bz_canonical.specs.Commented.{TakesComment, commented}
 use Rattle.bz_canonical.specs.Added.{AddsToLines, LacksInLines}
 use Rattle.bz_canonical.specs.Removed.{RemovesFromLines}
 use Rattle.bz_canonical.specs.Replaced.{ReplacesInLines}
-use Rattle.bz_canonical.specs.Canonical.{AloneLines, AreReadAlone, Between, HasPlace, argument_lines, first_args, read_alone, rule_args}
+use Rattle.bz_canonical.specs.Canonical.{AloneLines, AreReadAlone, Between, HasPlace, argument_lines, first_args, rule_args}
 use Rattle.bz_rule.specs.declared.command.Action.TheVariants.{Add, Comment, Remove, Replace}
 use Rattle.bz_rule.specs.Commands.{Command, after, args_after, args_done, done_of}
 use Rattle.bz_rule.specs.OneAttribute.{one_attribute}
@@ -147,34 +145,6 @@ pub adds_to_none : (depth : ℕ) (command : Command) (home : Package) (place : B
     → (args : List Segment) → is_empty place.lines ≡ is_empty args → AreReadAlone depth place.lines args → ChangesArgs command home place.may_go args new
 adds_to_none depth command home place new none adds args empty reads =
     subst (λ xs. ChangesArgs command home place.may_go xs new) (sym (no_args place.lines args empty none)) (changes_more command home false place.may_go [] new (λ no. absurd (false≢true no)) (adds home))
-
--- the lines are some, or there may be none
-none_long : (xs : List ℕ) → is_empty xs ≡ true → length xs ≡ 0
-none_long [] none = refl
-none_long (x ∷ xs) none = absurd (false≢true none)
-
-pub lists_on_lines : (depth : ℕ) (command : Command) (home : Package) (place : Between) (after : List ℕ) (some : Bool) → (length after ≡ 0 → some ≡ false) → (some ≡ false → place.may_go ≡ true)
-    → EditsList command (read_alone depth home place.lines) [] after Listed → (args : List Segment) → is_empty place.lines ≡ is_empty args → AreReadAlone depth place.lines args → ChangesArgs command home place.may_go args after
-lists_on_lines depth command home place after some none may edits args empty reads =
-    subst (ChangesArgs command home place.may_go args) (sym edits.1)
-    (changes_more command home (is_empty edits.0) place.may_go args edits.0 (λ gone. may (none (ap length edits.1 ∙ none_long edits.0 gone))) (edits.2 args reads))
-
-pub lists_in_place : (depth : ℕ) (command : Command) (home : Package) (place : Between) (old front after new : List ℕ) (begun : ℕ) → begun ≡ length front → front ≡ old ++ place.before → (nat_lt begun (length after) ≡ false → place.may_go ≡ true)
-    → EditsList command (read_alone depth home place.lines) front after Listed → new ≡ after ++ place.after → EditsPlace depth command home place old new Listed
-lists_in_place depth command home place old front after new begun begun_is front_is may edits new_is = (
-  edits.0,
-  new_is ∙ (λ i. (edits.1 ∙ ap (λ (t : List ℕ). t ++ edits.0) front_is) i ++ place.after) ∙ joined place.before edits.0 place.after,
-  λ args reads. changes_more command home (is_empty edits.0) place.may_go args edits.0 (λ gone. may (same_long (length after) (long (none_long edits.0 gone)))) (edits.2 args reads),
-)
-  where
-    joined : (B W A : List ℕ) → ((old ++ B) ++ W) ++ A ≡ old ++ (B ++ (W ++ A))
-    joined B W A = simp append_assoc
-
-    long : length edits.0 ≡ 0 → length after ≡ begun
-    long gone = omega (arith, ap length edits.1, length-append front edits.0, gone, begun_is)
-
-    same_long : (n : ℕ) → n ≡ begun → nat_lt begun n ≡ false
-    same_long n is = grind (arith, nat_tests, is)
 
 -- so of the rule
 told_first : (attr : List ℕ) (g : List Segment → Done) (args : List Segment) → LooksAt attr g → g (option_to_list (first_named attr args)) ≡ g args
