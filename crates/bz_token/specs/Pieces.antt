@@ -1,5 +1,5 @@
--- What a file is made of, as far as cutting it goes: strings, comments, continued lines and single bytes (Starlark
--- specification, "Lexical elements").
+-- What a file is made of, as far as cutting it goes: strings, comments, continued lines and single bytes
+-- (Starlark specification, "Lexical elements").
 -- Begin with `is_piece` and `is_space`.
 use Rattle.std.specs.Prelude.{ℕ, List, [], ◌∷◌, Bool, true, false, not, ◌&&◌, ◌||◌, ◌==◌, bytes_eq}
 use Rattle.std.specs.List.{list_any}
@@ -12,7 +12,8 @@ is_quoted text = map_or false (λ o. is_one_string o text) (opens_after 0 text)
 
 -- a string without its prefix that ends with the newline that breaks it off
 abbrev pub is_broken_off : List ℕ → Bool
-is_broken_off text = map_or false (λ o. is_one_string o text && has_break o.quotes (inside o text)) (opens_after 0 text)
+is_broken_off text =
+    map_or false (λ o. is_one_string o text && has_break o.quotes (inside o text)) (opens_after 0 text)
 
 -- a number sign and what follows it on its line, white space at its end too
 abbrev pub is_comment : List ℕ → Bool
