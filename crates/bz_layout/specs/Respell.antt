@@ -7,7 +7,7 @@ use Rattle.std.specs.Str.{bytes_eq}
 use Rattle.bz_token.specs.declared.token.Kind.{Kind}
 use Rattle.bz_token.specs.declared.token.Kind.TheVariants.{String}
 
--- neither a quote nor a backslash
+-- neither a quote (34 and 39) nor a backslash (92)
 abbrev pub is_plain : ℕ → Bool
 is_plain b = not (b == 34) && not (b == 39) && not (b == 92)
 

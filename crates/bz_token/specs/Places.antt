@@ -5,7 +5,7 @@ use Rattle.std.specs.Prelude.{ℕ, ◌+◌, List, [], ◌∷◌, count_by, ◌==
 use Rattle.bz_token.specs.declared.token.Kind.{Kind}
 use Rattle.bz_token.specs.declared.token.Token.{Token}
 
--- the line after these bytes
+-- the line after these bytes, which begin on line `first` (10 is a newline)
 abbrev pub line_at : ℕ → List ℕ → ℕ
 line_at first before = first + count_by (λ b. b == 10) before
 

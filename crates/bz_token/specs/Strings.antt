@@ -12,7 +12,7 @@ use Rattle.bz_token.specs.Groups.{grouped}
 abbrev pub is_byte : ℕ → List ℕ → Bool
 is_byte b text = bytes_eq text (b ∷ [])
 
--- `"` or `'`
+-- `"` (34) or `'` (39)
 abbrev pub is_quote : ℕ → Bool
 is_quote b = b == 34 || b == 39
 

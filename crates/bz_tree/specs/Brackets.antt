@@ -1,4 +1,5 @@
--- What a list of tokens is by its brackets, without losing one, and what its brackets are as groups.
+-- What a list of tokens is by its brackets, without losing one, and what its brackets are as groups (which
+-- bracket is one: Starlark specification, "Grammar reference"; the groups are this project's own form).
 -- Begin with `AreNested`.
 -- Of later stops: 8 `Placed`.
 use Rattle.std.specs.Prelude.{codes, ℕ, List, [], ◌∷◌, ◌++◌, Bool, true, false, if◌then◌else◌, ◌==◌, ◌+◌, ◌≡◌, ◌&&◌, length, map, flat_map, count_by, Option, Some, None}
@@ -23,9 +24,9 @@ leaf_of t = leaf t.kind t.text
 
 -- what stands directly before a bracket that comes next, after one more thing; a comment changes nothing
 abbrev pub preceding : Preceding → Own → Preceding
-preceding b (node line x) = after_item x
-preceding b (comma t) = Other
-preceding b (comment line text) = b
+preceding before (node line x) = after_item x
+preceding before (comma t) = Other
+preceding before (comment line text) = before
 
 -- the keyword `for`
 abbrev pub is_for_item : Item → Bool

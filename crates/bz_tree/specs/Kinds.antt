@@ -55,12 +55,12 @@ after_item (group kind segs one_comma end) = Operand
 -- specification, "Comprehensions": one expression or entry, and then `for`). The call of a rule is made a
 -- `RuleCall` afterwards (`Statement`).
 abbrev pub group_kind : Shape → Preceding → Bool → GroupKind
-group_kind Round Operand comp = Call
-group_kind Round LoadWord comp = Load
-group_kind Round Other comp = Paren
-group_kind Square Operand comp = Index
-group_kind Square _ comp = if comp then ListComp else ListKind
-group_kind Curly b comp = if comp then DictComp else Dict
+group_kind Round Operand comprehension = Call
+group_kind Round LoadWord comprehension = Load
+group_kind Round Other comprehension = Paren
+group_kind Square Operand comprehension = Index
+group_kind Square _ comprehension = if comprehension then ListComp else ListKind
+group_kind Curly preceding comprehension = if comprehension then DictComp else Dict
 
 -- these have one segment, whose commas are nodes
 abbrev pub is_one : GroupKind → Bool
