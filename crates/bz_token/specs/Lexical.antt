@@ -69,7 +69,7 @@ operators =
 abbrev pub is_operator_text : List ℕ → Bool
 is_operator_text text = is_one_of operators text
 
--- white space within a line stands at the end
+-- the last byte is white space within a line
 abbrev pub ends_blank : List ℕ → Bool
 ends_blank [] = false
 ends_blank (b ∷ []) = is_blank b
