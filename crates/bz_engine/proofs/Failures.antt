@@ -7,7 +7,6 @@ use Rattle.bz_token.specs.Common.{is_empty, map_or}
 use Rattle.bz_tree.specs.Tree.{Statement}
 use Rattle.bz_label.specs.Labels.{Package}
 use Rattle.bz_rule.specs.Commands.{Command, done_of}
-use Rattle.bz_attribute.specs.Effects.{fails}
 use Rattle.bz_attribute.specs.Texts.{shown_text}
 use Rattle.bz_attribute.specs.declared.done.Note.{Note}
 use Rattle.bz_attribute.specs.declared.done.Note.TheVariants.{Missing, NoAttribute, AttributeExists, NotAList, NoValue}
@@ -18,7 +17,8 @@ use Rattle.bz_passes.specs.Passes.{Slot, Meaning, Pass, Execution, executions, e
 use Rattle.bz_passes.specs.Exchange.{some_alone, some_execution, some_missing, some_of_commands, is_missing}
 use Rattle.bz_passes.proofs.ExchangeLaw.{some_alone_lem}
 use Rattle.bz_passes.proofs.Executions.{is_met, met_by_commands, met_by_passes}
-use Rattle.bz_engine.specs.Language.{meaning, fails_on, note_told}
+use Rattle.bz_engine.specs.Language.{meaning, fails, fails_on, has_failure, note_told}
+use Rattle.bz_engine.specs.Messages.{note_entry}
 use Rattle.bz_engine.specs.Outcome.{Script, slots_of, some_failure}
 use Rattle.bz_engine.specs.SessionValue.{SessionValue, HasDone}
 use Rattle.bz_engine.proofs.Noted.{says_is}
@@ -75,20 +75,24 @@ log_says m f test each target (p ∷ ps) slots =
     ∙ (λ i. (of_target i || of_commands i) || of_passes i)
     ∙ or_exchange (is_missing m p.target found) (some_of_commands m test p.commands marks) (some_execution m test ps rest) (some_missing m ps rest)
 
--- a note says a failure where it is one
+-- however the rule is shown, a note is one of a failure or not
+entry_fails : (rule : List ℕ) (note : Note) → has_failure (note_entry rule note ∷ []) ≡ fails (Some note)
+entry_fails rule (Missing field) = refl
+entry_fails rule (NoAttribute attr) = refl
+entry_fails rule (AttributeExists attr) = refl
+entry_fails rule (NotAList attr) = refl
+entry_fails rule (NoValue attr value) = refl
+
+pub told_fails : (rule : List ℕ) (note : Option Note) → has_failure (note_told rule note) ≡ fails note
+told_fails rule None = refl
+told_fails rule (Some note) = entry_fails rule note
+
+line_says_none : (line : Option (List ℕ)) (log : List Entry) → Says failure_text (map Line (option_to_list line) ++ log) ≡ Says failure_text log
+line_says_none None log = refl
+line_says_none (Some line) log = refl
+
 note_fails : (rule : List ℕ) (line : Option (List ℕ)) (note : Option Note) → Says failure_text (map Line (option_to_list line) ++ note_told rule note) ≡ fails note
-note_fails rule None None = refl
-note_fails rule (Some line) None = refl
-note_fails rule None (Some (Missing field)) = refl
-note_fails rule (Some line) (Some (Missing field)) = refl
-note_fails rule None (Some (NoAttribute attr)) = refl
-note_fails rule (Some line) (Some (NoAttribute attr)) = refl
-note_fails rule None (Some (AttributeExists attr)) = refl
-note_fails rule (Some line) (Some (AttributeExists attr)) = refl
-note_fails rule None (Some (NotAList attr)) = refl
-note_fails rule (Some line) (Some (NotAList attr)) = refl
-note_fails rule None (Some (NoValue attr value)) = refl
-note_fails rule (Some line) (Some (NoValue attr value)) = refl
+note_fails rule line note = line_says_none line (note_told rule note) ∙ told_fails rule note
 
 pub says_failure : (home : Package) (c : Command) (slot : Slot Statement) → Says failure_text ((meaning home).says c slot) ≡ fails_on home c slot
 says_failure home c slot = ap (Says failure_text) (sym (says_is home c slot)) ∙ note_fails (map_or [] (shown_text home) slot) (done_of c home slot).line (done_of c home slot).note

@@ -13,7 +13,9 @@ use Rattle.bz_passes.specs.Exchange.{slot_after, some_alone}
 use Rattle.bz_engine.specs.Language.{meaning, fails_on}
 use Rattle.bz_engine.specs.File.{Follows, AreStatementsOf}
 use Rattle.bz_engine.specs.Progress.{last_class, text_following}
-use Rattle.bz_engine.specs.Outcome.{Script, Run, slots_of, is_query, text_after, Told, some_failure, told_of, told_of_failure, BeginsWith, IsWholeRun, EndsAtFailure, IsOutcome, IsFrontOf}
+use Rattle.bz_engine.specs.Outcome.{Script, Run, slots_of, is_query, text_after, Told, some_failure, told_of, told_of_failure, BeginsWith, IsOutcome, IsFrontOf}
+use Rattle.bz_engine.specs.private.Outcomes.{EitherEnd, EndsAtFailure, IsWholeRun}
+use Rattle.bz_engine.proofs.Outcomes.{either_end}
 use Rattle.bz_engine.proofs.Failures.{failure_each}
 use Rattle.bz_engine.proofs.OneSlot.{fails_alone}
 use Rattle.bz_passes.proofs.Failures.{or_left, or_right}
@@ -147,12 +149,12 @@ front_of_more home passes xs ss more text is same =
     front_moved (text_after home passes xs) (text_after home passes (xs ++ more)) text (text_front home passes xs more) (is ∙ ap (text_after home passes) same)
 
 -- What was written of calm statements that a file begins with is a front of what is written of the file.
-pub front_of_outcome : (run : Run) (file : List ℕ) (xs : List Statement) (text : List ℕ) (told : Told)
-    → BeginsCalmly run file xs → IsOutcome run file text told → IsFrontOf (text_after run.home run.passes xs) text
-front_of_outcome run file xs text told first (inl w) =
+front_of_either : (run : Run) (file : List ℕ) (xs : List Statement) (text : List ℕ) (told : Told)
+    → BeginsCalmly run file xs → EitherEnd run file text told → IsFrontOf (text_after run.home run.passes xs) text
+front_of_either run file xs text told first (inl w) =
     let rest = whole_begins run.max_depth file xs w.statements w.fault first.begins w.read in
     front_of_more run.home run.passes xs w.statements rest.0 text w.text_is rest.1
-front_of_outcome run file xs text told first (inr e) =
+front_of_either run file xs text told first (inr e) =
     elim (either_begins run.max_depth file xs (e.before ++ e.statement ∷ []) first.begins e.read) [
       | inl r ↦
           elim (last_or_before e.before xs r.0 e.statement r.1) [
@@ -161,6 +163,10 @@ front_of_outcome run file xs text told first (inr e) =
           ]
       | inr r ↦ calm_at run.home run.passes xs e.before r.0 e.statement (first.calm e.ends) r.1 e.fails
     ]
+
+pub front_of_outcome : (run : Run) (file : List ℕ) (xs : List Statement) (text : List ℕ) (told : Told)
+    → BeginsCalmly run file xs → IsOutcome run file text told → IsFrontOf (text_after run.home run.passes xs) text
+front_of_outcome run file xs text told first outcome = front_of_either run file xs text told first (either_end run file text told outcome)
 
 -- two that tell of one change tell the same
 same_change : (A : Type 0) (b c : Bool) → (b ≡ true) ↔ A → (c ≡ true) ↔ A → b ≡ c
@@ -218,9 +224,14 @@ one_failure run file text text2 told told2 p q =
       p.told_is ∙ (λ i. told_of_failure run.home run.passes (same.1 i) (changed i)) ∙ sym q.told_is,
     )
 
+one_either : (run : Run) (file text text2 : List ℕ) (told told2 : Told)
+    → EitherEnd run file text told → EitherEnd run file text2 told2 → (text ≡ text2) × (told ≡ told2)
+one_either run file text text2 told told2 (inl p) (inl q) = one_whole run file text text2 told told2 p q
+one_either run file text text2 told told2 (inl p) (inr q) = not_both run file text text2 told told2 p q
+one_either run file text text2 told told2 (inr p) (inl q) = not_both run file text2 text told2 told q p
+one_either run file text text2 told told2 (inr p) (inr q) = one_failure run file text text2 told told2 p q
+
 pub one_outcome : (run : Run) (file text text2 : List ℕ) (told told2 : Told)
     → IsOutcome run file text told → IsOutcome run file text2 told2 → (text ≡ text2) × (told ≡ told2)
-one_outcome run file text text2 told told2 (inl p) (inl q) = one_whole run file text text2 told told2 p q
-one_outcome run file text text2 told told2 (inl p) (inr q) = not_both run file text text2 told told2 p q
-one_outcome run file text text2 told told2 (inr p) (inl q) = not_both run file text2 text told2 told q p
-one_outcome run file text text2 told told2 (inr p) (inr q) = one_failure run file text text2 told told2 p q
+one_outcome run file text text2 told told2 p q =
+    one_either run file text text2 told told2 (either_end run file text told p) (either_end run file text2 told2 q)

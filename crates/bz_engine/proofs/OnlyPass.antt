@@ -10,7 +10,7 @@ use Rattle.bz_tree.specs.Tree.{Statement}
 use Rattle.bz_label.specs.Labels.{Package, Target}
 use Rattle.bz_passes.specs.Passes.{Slot, marked}
 use Rattle.bz_attribute.specs.declared.done.Done.{Done}
-use Rattle.bz_attribute.specs.Effects.{fails, with_args}
+use Rattle.bz_attribute.specs.Effects.{with_args}
 use Rattle.bz_attribute.specs.Marks.{marks, marks_rule}
 use Rattle.bz_attribute.specs.Rules.{Rule, name_in, rule_of}
 use Rattle.bz_attribute.specs.Texts.{shown_text}
@@ -30,7 +30,7 @@ use Rattle.bz_passes.specs.declared.entry.Entry.TheVariants.{Line}
 use Rattle.bz_passes.proofs.ExchangeLaw.{left_more}
 use Rattle.bz_passes.proofs.OnePass.{fits_and, fits_at}
 use Rattle.bz_passes.proofs.PassedBy.{unmarked_passed}
-use Rattle.bz_engine.specs.Language.{meaning, changes, fails_on, note_told}
+use Rattle.bz_engine.specs.Language.{meaning, changes, fails, fails_on, note_told}
 use Rattle.bz_engine.specs.Outcome.{Run, Script, is_query}
 use Rattle.bz_engine.specs.Progress.{Progress, last_class, text_following}
 use Rattle.bz_engine.specs.declared.canonical.Found.{Found}

@@ -17,14 +17,13 @@ use Rattle.bz_passes.specs.Exchange.{log_alone, slot_after}
 use Rattle.bz_passes.specs.declared.entry.Entry.{Entry}
 use Rattle.bz_passes.specs.declared.entry.Entry.TheVariants.{Line}
 use Rattle.bz_passes.proofs.Alike.{are_alike, give_the_same, like_after, passes_where}
-use Rattle.bz_attribute.specs.Effects.{fails}
 use Rattle.bz_attribute.specs.Texts.{shown_text}
 use Rattle.bz_attribute.specs.declared.done.Done.{Done}
 use Rattle.bz_rule.specs.Commands.{Command}
 use Rattle.bz_rule.specs.Sealed.{IsSealed, SlotsSealed, attributes_of, both_empty, both_rules}
 use Rattle.bz_rule.proofs.NotSeen.{not_seen}
 use Rattle.bz_rule.proofs.SealedStatements.{shown_alike}
-use Rattle.bz_engine.specs.Language.{changes, fails_on, meaning, note_told}
+use Rattle.bz_engine.specs.Language.{changes, fails, fails_on, meaning, note_told}
 use Rattle.bz_engine.specs.Outcome.{Run, Script, is_query}
 use Rattle.bz_engine.specs.Progress.{Progress, last_class, text_following}
 use Rattle.bz_engine.specs.declared.edit.Scripted.{Scripted}

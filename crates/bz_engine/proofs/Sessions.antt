@@ -11,7 +11,7 @@ use Rattle.bz_devices.specs.Ahead.{Ahead, IsReadOn, IsNextChunk}
 use Rattle.bz_engine.specs.Language.{meaning}
 use Rattle.bz_engine.specs.File.{AreStatementsOf, IsAnswerOf}
 use Rattle.bz_engine.specs.Messages.{fault_text}
-use Rattle.bz_engine.specs.Outcome.{Run, slots_of, text_after, told_of}
+use Rattle.bz_engine.specs.Outcome.{Run, at_a_failure, at_the_end, slots_of, text_after, told_of}
 use Rattle.bz_engine.specs.Scripts.{AreCommands}
 use Rattle.bz_engine.proofs.ChangesLaw.{changes_tell}
 use Rattle.bz_engine.proofs.Failures.{calm_of, failure_is, log_fails}
@@ -115,15 +115,14 @@ ended_whole v mid max_reads pieces cs read text commands done on nothing over =
     record {
       outcome = record {
         each = λ rest last.
-            inl (record {
-              statements = done.statements;
-              fault = None;
-              read = subst (λ l. AreStatementsOf v.options.max_depth 1 l done.statements None) (sym (all rest last)) done.kept.read;
+            record {
+              edited = done.statements;
+              ends = at_the_end None (subst (λ l. AreStatementsOf v.options.max_depth 1 l done.statements None) (sym (all rest last)) done.kept.read)
+                  (told_whole (run_in v) cs done.statements v.progress done.kept);
               calm = calm_of v pieces cs text done;
               text_is = done.text_is;
               changed = change_kept (run_in v) cs done.statements v.progress commands done.kept;
-              told_is = told_whole (run_in v) cs done.statements v.progress done.kept;
-            });
+            };
       };
       last = record { each = all };
     }
@@ -152,17 +151,16 @@ pub ended_fault : (v : SessionValue) (mid : Ahead) (fault : SyntaxFault) (max_re
     → HasEnded (record v { ahead = mid }) (Syntax fault) (pieces ++ read) cs text
 ended_fault v mid fault max_reads n pieces cs read text commands done on next gives = record {
   outcome = record {
-    each = λ rest last. inl (record {
-      statements = done.statements;
-      fault = Some fault;
-      read = subst (λ l. AreStatementsOf v.options.max_depth 1 l done.statements (Some fault))
+    each = λ rest last. record {
+      edited = done.statements;
+      ends = at_the_end (Some fault)
+          (subst (λ l. AreStatementsOf v.options.max_depth 1 l done.statements (Some fault))
           (sym (next_after v mid max_reads n pieces cs read text done on next rest last))
-          (give_fault v.options.max_depth v.progress.line cs done.statements (take n mid.bytes) (chunks (drop n mid.bytes ++ rest)) fault done.kept.read done.kept.line gives);
+          (give_fault v.options.max_depth v.progress.line cs done.statements (take n mid.bytes) (chunks (drop n mid.bytes ++ rest)) fault done.kept.read done.kept.line gives)) refl;
       calm = calm_of v pieces cs text done;
       text_is = done.text_is;
       changed = change_kept (run_in v) cs done.statements v.progress commands done.kept;
-      told_is = refl;
-    });
+    };
   };
   last = (
     take n mid.bytes,
@@ -182,23 +180,21 @@ ended_failure v mid progress message after max_reads n pieces cs read text comma
       outcome = record {
         each = λ rest last.
             let all = next_after v mid max_reads n pieces cs read text done on next rest last in
-            inr (record {
-              ends = failed.ends;
-              before = done.statements;
-              statement = failed.statement;
-              read = record {
-                front = cs ++ take n mid.bytes ∷ [];
-                after = chunks (drop n mid.bytes ++ rest);
-                chunks_are = all ∙ one_more cs (chunks (drop n mid.bytes ++ rest)) (take n mid.bytes);
-                read = give_statement v.options.max_depth v.progress.line cs done.statements (take n mid.bytes) failed.statement done.kept.read done.kept.line failed.read;
-              };
-              calm = calm_of v pieces cs text done failed.ends;
-              fails = failed.fails calm;
+            record {
+              edited = done.statements;
+              ends = at_a_failure failed.statement failed.ends
+                  (record {
+                    front = cs ++ take n mid.bytes ∷ [];
+                    after = chunks (drop n mid.bytes ++ rest);
+                    chunks_are = all ∙ one_more cs (chunks (drop n mid.bytes ++ rest)) (take n mid.bytes);
+                    read = give_statement v.options.max_depth v.progress.line cs done.statements (take n mid.bytes) failed.statement done.kept.read done.kept.line failed.read;
+                  })
+                  (failed.fails calm) (ap (λ l. told_alone l progress.changed FirstFailure) (failed.message_is calm));
+              calm = calm_of v pieces cs text done;
               text_is = done.text_is;
               changed = subst (λ b. (b ≡ true) ↔ Changes (meaning v.home) v.passes (slots_of done.statements)) (sym failed.changed)
                   (change_kept (run_in v) cs done.statements v.progress commands done.kept);
-              told_is = ap (λ l. told_alone l progress.changed FirstFailure) (failed.message_is calm);
-            });
+            };
       };
       last = (
         take n mid.bytes,

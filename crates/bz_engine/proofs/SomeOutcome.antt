@@ -17,7 +17,7 @@ use Rattle.bz_passes.specs.Exchange.{some_alone}
 use Rattle.bz_engine.specs.Language.{meaning, fails_on}
 use Rattle.bz_engine.specs.File.{not_utf8, IsAnswerOf, Follows, AreStatementsOf}
 use Rattle.bz_label.specs.Labels.{Package}
-use Rattle.bz_engine.specs.Outcome.{Run, Script, slots_of, text_after, Told, some_failure, told_of, told_of_failure, IsOutcome}
+use Rattle.bz_engine.specs.Outcome.{Run, Script, slots_of, text_after, Told, some_failure, told_of, told_of_failure, IsOutcome, at_a_failure, at_the_end}
 use Rattle.bz_passes.proofs.Executions.{some_change}
 use Rattle.bz_engine.proofs.Decided.{slot_told}
 use Rattle.bz_engine.proofs.Failures.{failure_each}
@@ -186,7 +186,7 @@ some_outcome run file = at_keep run.keep_going refl (some_failure run.home run.p
     whole calm = (
       text_after run.home run.passes ss,
       told_of run.home run.passes ss fault (changed ss).0,
-      inl (record { statements = ss; fault = fault; read = read; calm = calm; text_is = refl; changed = told_changed fault; told_is = told_same fault }),
+      record { edited = ss; ends = at_the_end fault read (told_same fault); calm = calm; text_is = refl; changed = told_changed fault },
     )
 
     cut : run.keep_going ≡ false → some_failure run.home run.passes ss ≡ true → (text : List ℕ) × (told : Told) × IsOutcome run file text told
@@ -195,17 +195,14 @@ some_outcome run file = at_keep run.keep_going refl (some_failure run.home run.p
         let at = ends_at run.max_depth 1 (chunks file) first.before first.more first.statement fault (subst (λ l. AreStatementsOf run.max_depth 1 (chunks file) l fault) first.are read) in (
           text_after run.home run.passes first.before,
           told_of_failure run.home run.passes first.statement (changed first.before).0,
-          inr (record {
-            ends = ends;
-            before = first.before;
-            statement = first.statement;
-            read = record { front = at.front; after = at.after; chunks_are = at.are; read = at.read };
-            calm = failure_each run.home run.passes first.before ∙ first.none;
-            fails = fails_alone run.home run.passes first.statement ∙ first.passes;
+          record {
+            edited = first.before;
+            ends = at_a_failure first.statement ends (record { front = at.front; after = at.after; chunks_are = at.are; read = at.read })
+                (fails_alone run.home run.passes first.statement ∙ first.passes) refl;
+            calm = λ h. failure_each run.home run.passes first.before ∙ first.none;
             text_is = refl;
             changed = (changed first.before).1;
-            told_is = refl;
-          }),
+          },
         )
 
     at_keep : (k : Bool) → run.keep_going ≡ k → (f : Bool) → some_failure run.home run.passes ss ≡ f → (text : List ℕ) × (told : Told) × IsOutcome run file text told

@@ -20,7 +20,7 @@ use Rattle.bz_rule.specs.declared.command.Action.TheVariants.{Comment, Print}
 use Rattle.bz_rule.specs.Commands.{Command, args_done, done_of}
 use Rattle.bz_rule.proofs.Lawfulness.{lawful}
 use Rattle.bz_engine.specs.Language.{note_told}
-use Rattle.bz_engine.specs.Messages.{note_text}
+use Rattle.bz_engine.specs.Messages.{note_entry}
 use Rattle.bz_engine.specs.private.Found.{IsWithout, Tells}
 use Rattle.bz_rule.specs.Forms.{needed}
 use Rattle.bz_engine.proofs.OnlyPass.{named_rule}
@@ -59,14 +59,14 @@ shown_named home name s named =
     ∙ ap (λ o. home_text home ++ unwrap_or o (37 ∷ kind_text rule.0.kind)) rule.2
 
 pub needed_fails : (command : Command) (attr name : List ℕ) (home : Package) (s : Statement) (entry : Entry) → needed command ≡ Some attr → HasName (Some name) s → IsWithout attr s
-    → entry ∷ [] ≡ note_told (home_text home ++ name) (Some (NoAttribute attr)) → Tells command home s None entry true
+    → entry ≡ note_entry (home_text home ++ name) (NoAttribute attr) → Tells command home s None entry true
 needed_fails command attr name home s entry is named without told =
     let rule = named_rule s name named in
     let fails : done_of command home (Some s) ≡ failure attr = fails_of_rule command attr home s rule.0 is rule.1 without in
     record {
       note = NoAttribute attr;
       made = record { after_is = (lawful command home).stays (Some s) (ap (λ (d : Done). d.changed) fails); done = fails };
-      told = ap (λ text. note_told text (Some (NoAttribute attr))) (shown_named home name s named) ∙ sym told;
+      told = ap (λ text. note_told text (Some (NoAttribute attr))) (shown_named home name s named) ∙ ap (λ (e : Entry). e ∷ []) (sym told);
       failed = refl;
     }
 
@@ -94,7 +94,7 @@ shown_nameless home s kind is =
     ∙ ap (λ k. home_text home ++ 37 ∷ k) is.kind_is
 
 -- the message of it, word by word
-missing_words : (home kind : List ℕ) → note_text (home ++ 37 ∷ kind) (Missing (codes "name")) ≡ home ++ codes "%" ++ kind ++ codes ": no attribute 'name' to print"
+missing_words : (home kind : List ℕ) → (home ++ 37 ∷ kind) ++ codes ": no attribute '" ++ codes "name" ++ codes "' to print" ≡ home ++ codes "%" ++ kind ++ codes ": no attribute 'name' to print"
 missing_words home kind =
     let word : List ℕ = codes ": no attribute '" in
     let rest : List ℕ = codes "name" ++ codes "' to print" in

@@ -1,5 +1,5 @@
 -- The texts of messages (this project's own rule): a rule is shown by its label, a fault by its line and column.
--- Begin with `fault_text`, `note_text` and `not_found_text`.
+-- Begin with `fault_text`, `note_entry` and `not_found_text`.
 use Rattle.std.specs.Prelude.{ℕ, List, ◌++◌, codes}
 use Rattle.std.specs.Fmt.{decimal}
 use Rattle.bz_token.specs.declared.fault.LexFault.{LexFault}
@@ -8,6 +8,8 @@ use Rattle.bz_tree.specs.declared.fault.ParseFault.TheVariants as parse
 use Rattle.bz_attribute.specs.declared.done.Note.{Note}
 use Rattle.bz_attribute.specs.declared.done.Note.TheVariants.{Missing, NoAttribute, AttributeExists, NotAList, NoValue}
 use Rattle.bz_label.specs.Labels.{Package, Target}
+use Rattle.bz_passes.specs.declared.entry.Entry.{Entry}
+use Rattle.bz_passes.specs.declared.entry.Entry.TheVariants.{Warning, Failure}
 use Rattle.bz_attribute.specs.Texts.{home_text, target_text}
 use Rattle.bz_engine.specs.declared.report.SyntaxFault.{SyntaxFault}
 use Rattle.bz_engine.specs.declared.report.SyntaxFault.TheVariants.{NotUtf8, Parse}
@@ -16,13 +18,13 @@ use Rattle.bz_engine.specs.declared.report.SyntaxFault.TheVariants.{NotUtf8, Par
 abbrev pub not_found_text : Package → Target → List ℕ
 not_found_text home target = (home_text home ++ target_text target) ++ codes ": no such rule"
 
--- a note on a rule, which is shown as the command found it
-abbrev pub note_text : List ℕ → Note → List ℕ
-note_text rule (Missing attr) = rule ++ codes ": no attribute '" ++ attr ++ codes "' to print"
-note_text rule (NoAttribute attr) = rule ++ codes ": no attribute '" ++ attr ++ codes "'"
-note_text rule (AttributeExists attr) = rule ++ codes ": attribute '" ++ attr ++ codes "' is already there"
-note_text rule (NotAList attr) = rule ++ codes ": attribute '" ++ attr ++ codes "' has no list"
-note_text rule (NoValue a v) = rule ++ codes ": no value '" ++ v ++ codes "' in attribute '" ++ a ++ codes "'"
+-- what is told of a note on a rule, which is shown as the command found it: whether it is a warning or a failure, and its text
+abbrev pub note_entry : List ℕ → Note → Entry
+note_entry rule (Missing attr) = Warning (rule ++ codes ": no attribute '" ++ attr ++ codes "' to print")
+note_entry rule (NoAttribute attr) = Failure (rule ++ codes ": no attribute '" ++ attr ++ codes "'")
+note_entry rule (AttributeExists attr) = Failure (rule ++ codes ": attribute '" ++ attr ++ codes "' is already there")
+note_entry rule (NotAList attr) = Failure (rule ++ codes ": attribute '" ++ attr ++ codes "' has no list")
+note_entry rule (NoValue a v) = Failure (rule ++ codes ": no value '" ++ v ++ codes "' in attribute '" ++ a ++ codes "'")
 
 -- a fault at a line and a column
 abbrev pub placed : ℕ → ℕ → List ℕ → List ℕ

@@ -1,7 +1,7 @@
 -- What a run over a file gives: the passes one after another on the whole list of its statements, and the result laid out.
 -- Begin with `IsOutcome`.
 -- Of later stops: 4 `Package`, `Statement`, `Target`, `fault_text`, `meaning`; 5 `Command`, `is_print`; 6 `gap_text`, `layout_text`, `lines_between`; 7 `AreStatementsOf`, `IsFile`; 8 `chunks`.
-use Rattle.std.specs.Prelude.{◌≡◌, ◌⊎◌, ◌↔◌, ℕ, Bool, true, false, not, if◌then◌else◌, List, [], ◌∷◌, ◌++◌, map, Option, None, Some, take, filter_map}
+use Rattle.std.specs.Prelude.{◌≡◌, ◌↔◌, ℕ, Bool, true, false, not, if◌then◌else◌, List, [], ◌∷◌, ◌++◌, map, Option, None, Some, take, filter_map}
 use Rattle.std.specs.List.{list_all, flat_map}
 use Rattle.bz_token.specs.Common.{is_empty}
 use Rattle.bz_token.specs.Chunks.{chunks}
@@ -98,35 +98,27 @@ pub record BeginsWith (max_depth : ℕ) (file : List ℕ) (statements : List Sta
   pub chunks_are : chunks file ≡ front ++ after
   pub read : AreStatementsOf max_depth 1 front statements None
 
--- All executions take place, up to the first fault of the file: failures do not end the run, or there is none.
-pub record IsWholeRun (run : Run) (file text : List ℕ) (told : Told) : Type 0 where
-  pub statements : List Statement
-  pub fault : Option SyntaxFault
-  pub read : IsFile run.max_depth file statements fault
-  pub calm : run.keep_going ≡ false → some_failure run.home run.passes statements ≡ false
-  pub text_is : text ≡ text_after run.home run.passes statements
-  pub changed : (told.changed ≡ true) ↔ Changes (meaning run.home) run.passes (slots_of statements)
-  pub told_is : told ≡ told_of run.home run.passes statements fault told.changed
+-- How a run ends after the statements that it edits, and what is told: the file has no others before its end or its first
+-- fault; or an execution fails on the next one, and failures end the run.
+pub data RunEnds (run : Run) (file : List ℕ) (edited : List Statement) (told : Told) : Type 0 where
+  at_the_end : (fault : Option SyntaxFault) → IsFile run.max_depth file edited fault
+      → told ≡ told_of run.home run.passes edited fault told.changed → RunEnds run file edited told
+  at_a_failure : (s : Statement) → run.keep_going ≡ false → BeginsWith run.max_depth file (edited ++ s ∷ [])
+      → some_failure run.home run.passes (s ∷ []) ≡ true
+      → told ≡ told_of_failure run.home run.passes s told.changed → RunEnds run file edited told
 
--- The run ends at the first statement on which an execution fails: what stands before it is edited and written.
-pub record EndsAtFailure (run : Run) (file text : List ℕ) (told : Told) : Type 0 where
-  pub ends : run.keep_going ≡ false
-  pub before : List Statement
-  pub statement : Statement
-  pub read : BeginsWith run.max_depth file (before ++ statement ∷ [])
-  pub calm : some_failure run.home run.passes before ≡ false
-  pub fails : some_failure run.home run.passes (statement ∷ []) ≡ true
-  pub text_is : text ≡ text_after run.home run.passes before
-  pub changed : (told.changed ≡ true) ↔ Changes (meaning run.home) run.passes (slots_of before)
-  pub told_is : told ≡ told_of_failure run.home run.passes statement told.changed
+-- The text that is written for a file, and what is told: all executions on these statements take place, and of them none
+-- fails, or failures do not end the run.
+pub record IsOutcome (run : Run) (file text : List ℕ) (told : Told) : Type 0 where
+  pub edited : List Statement
+  pub ends : RunEnds run file edited told
+  pub calm : run.keep_going ≡ false → some_failure run.home run.passes edited ≡ false
+  pub text_is : text ≡ text_after run.home run.passes edited
+  pub changed : (told.changed ≡ true) ↔ Changes (meaning run.home) run.passes (slots_of edited)
 
 -- these bytes begin those
 abbrev pub IsFrontOf : List ℕ → List ℕ → Type 0
 IsFrontOf front whole = (more : List ℕ) × (whole ≡ front ++ more)
-
--- The text that is written for a file, and what is told.
-abbrev pub IsOutcome : Run → List ℕ → List ℕ → Told → Type 0
-IsOutcome run file text told = IsWholeRun run file text told ⊎ EndsAtFailure run file text told
 
 -- 2 if the run failed, else 0 if it changed something, else 3
 abbrev pub status_of : Report → ℕ

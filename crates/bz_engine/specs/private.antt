@@ -2,6 +2,7 @@ pub mod ChunkFaults
 pub mod ChunkRead
 pub mod Edits
 pub mod Named
+pub mod Outcomes
 pub mod Rows
 pub mod Sealed
 pub mod NextChunks

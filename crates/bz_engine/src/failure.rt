@@ -1,17 +1,17 @@
 //! Rules of which the one command of a script tells a message, by what is known of their text.
 
-ghost use Rattle.std.specs.Prelude.{◌≡◌, ◌∷◌, ◌++◌, [], codes, IfOk, IfSome, IsTrue, Some};
+ghost use Rattle.std.specs.Prelude.{◌≡◌, ◌∷◌, ◌++◌, [], codes, IfOk, IfSome, IsTrue};
 ghost use Rattle.bz_attribute.specs.Texts.{home_text};
 ghost use Rattle.bz_rule.specs.declared.commands.field.Field.TheVariants.{ValueOf};
 ghost use Rattle.bz_rule.specs.declared.command.Action.TheVariants.{Print};
 ghost use Rattle.bz_attribute.specs.declared.done.Note.TheVariants.{NoAttribute};
-ghost use Rattle.bz_engine.specs.Language.{note_told};
+ghost use Rattle.bz_engine.specs.Messages.{note_entry};
 ghost use Rattle.bz_engine.specs.private.Found.{TellsRule};
 
 use crate::answer::is_without;
 use crate::canonical::Found;
 use crate::edit::ScriptRun;
-use crate::message::{missing_name, note_text};
+use crate::message::{missing_name, note_entry};
 use bz_attribute::push_home;
 use bz_label::Package;
 use bz_memory::{NoMemory, push_str};
@@ -127,13 +127,11 @@ fn failure_by_text(
 
 /// What is told of a rule of this name that has no such attribute.
 fn no_attribute(alloc: Global, home: &Package, name: &str, attr: &str) -> Result<Entry, NoMemory>
-    ensures { IfOk result
-        (λ entry. entry ∷ [] ≡ note_told (home_text home.now ++ name.now) (Some (NoAttribute attr.now))) }
+    ensures { IfOk result (λ entry. entry ≡ note_entry (home_text home.now ++ name.now) (NoAttribute attr.now)) }
 {
     let mut rule = String::new(alloc);
     push_home(&mut rule, home)?;
     push_str(&mut rule, name)?;
     let note = Note::NoAttribute(Text::from_str(alloc, attr)?);
-    let text = note_text(alloc, rule.as_str(), &note)?;
-    Ok(Entry::Failure(text))
+    note_entry(alloc, rule.as_str(), &note)
 }

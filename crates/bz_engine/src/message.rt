@@ -3,11 +3,12 @@
 ghost use Rattle.std.specs.Prelude.{◌≡◌, ◌++◌, codes, IfOk};
 ghost use Rattle.bz_attribute.specs.Texts.{home_text};
 ghost use Rattle.bz_engine.specs.declared.report.SyntaxFault.TheVariants.{Parse};
-ghost use Rattle.bz_engine.specs.Messages.{not_found_text, note_text, lex_text, fault_text, placed, lined};
+ghost use Rattle.bz_engine.specs.Messages.{not_found_text, note_entry, lex_text, fault_text, placed, lined};
 
 use crate::report::SyntaxFault;
 use bz_attribute::push_home;
 use bz_memory::{NoMemory, from_str, push_number, push_str, with_length_of};
+use bz_passes::entry::Entry;
 use bz_rule::{Note, Package, Target, Text, label};
 use bz_token::LexFault;
 use bz_tree::ParseFault;
@@ -22,30 +23,33 @@ pub(crate) fn not_found(alloc: Global, home: &Package, target: &Target) -> Resul
     Ok(Text::from_string(text))
 }
 
-/// A note on a rule, which is shown as `rule`.
-pub(crate) fn note_text(alloc: Global, rule: &str, note: &Note) -> Result<Text, NoMemory>
-    ensures { IfOk result (λ t. t ≡ note_text rule.now note.now) }
+/// What is told of a note on a rule, which is shown as `rule`: whether it is a warning or a failure, and its text. All
+/// else follows from that: the status, and whether the run goes on.
+pub(crate) fn note_entry(alloc: Global, rule: &str, note: &Note) -> Result<Entry, NoMemory>
+    ensures { IfOk result (λ entry. entry ≡ note_entry rule.now note.now) }
 {
     match note {
         Note::Missing(attr) => {
-            of_attribute(alloc, rule, ": no attribute '", attr.as_str(), "' to print")
+            let text = of_attribute(alloc, rule, ": no attribute '", attr.as_str(), "' to print")?;
+            Ok(Entry::Warning(text))
         }
         Note::NoAttribute(attr) => {
-            of_attribute(alloc, rule, ": no attribute '", attr.as_str(), "'")
+            let text = of_attribute(alloc, rule, ": no attribute '", attr.as_str(), "'")?;
+            Ok(Entry::Failure(text))
         }
         Note::AttributeExists(attr) => {
-            of_attribute(
-                alloc,
-                rule,
-                ": attribute '",
-                attr.as_str(),
-                "' is already there",
-            )
+            let after = "' is already there";
+            let text = of_attribute(alloc, rule, ": attribute '", attr.as_str(), after)?;
+            Ok(Entry::Failure(text))
         }
         Note::NotAList(attr) => {
-            of_attribute(alloc, rule, ": attribute '", attr.as_str(), "' has no list")
+            let text = of_attribute(alloc, rule, ": attribute '", attr.as_str(), "' has no list")?;
+            Ok(Entry::Failure(text))
         }
-        Note::NoValue { attr, value } => no_value(alloc, rule, attr.as_str(), value.as_str()),
+        Note::NoValue { attr, value } => {
+            let text = no_value(alloc, rule, attr.as_str(), value.as_str())?;
+            Ok(Entry::Failure(text))
+        }
     }
 }
 
@@ -85,7 +89,8 @@ fn of_attribute(
 }
 
 fn no_value(alloc: Global, rule: &str, attr: &str, value: &str) -> Result<Text, NoMemory>
-    ensures { IfOk result (λ t. t ≡ note_text rule.now (Note.NoValue attr.now value.now)) }
+    ensures { IfOk result (λ t. t ≡ rule.now ++ codes ": no value '" ++ value.now ++ codes "' in attribute '"
+        ++ attr.now ++ codes "'") }
 {
     let mut text = from_str(alloc, rule)?;
     push_str(&mut text, ": no value '")?;

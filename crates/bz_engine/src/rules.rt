@@ -1,9 +1,9 @@
 //! The language of passes over BUILD files: targets and commands on the rules of a package.
 
-ghost use Rattle.std.specs.Prelude.{◌≡◌, [], ◌∷◌, ◌++◌, map, Some, Option, option_to_list, IfOk, OnOk, string_bytes};
+ghost use Rattle.std.specs.Prelude.{◌≡◌, [], ◌∷◌, ◌++◌, map, Option, option_to_list, IfOk, OnOk, string_bytes};
 ghost use Rattle.bz_tree.specs.Tree.{Statement};
-ghost use Rattle.bz_attribute.specs.Effects.{fails};
-ghost use Rattle.bz_engine.specs.Language.{note_told};
+ghost use Rattle.bz_engine.specs.Language.{has_failure, note_told};
+ghost use Rattle.bz_engine.specs.Messages.{note_entry};
 ghost use Rattle.bz_passes.specs.declared.entry.Entry.TheVariants.{Line};
 ghost use Rattle.bz_attribute.specs.Texts.{shown_text};
 ghost use Rattle.bz_token.specs.Common.{map_or};
@@ -86,26 +86,6 @@ impl<'a> Language for Rules<'a> {
     }
 }
 
-fn facts_of(done: &Done) -> Facts
-    ensures changed { result.changed ≡ done.now.changed }
-    ensures failed { result.failed ≡ fails done.now.note }
-{
-    Facts {
-        changed: done.changed,
-        failed: is_failure(&done.note),
-    }
-}
-
-/// A note with which nothing was done.
-fn is_failure(note: &Option<Note>) -> bool
-    ensures { result ≡ fails note.now }
-{
-    match note {
-        None | Some(Note::Missing(_)) => false,
-        Some(_) => true,
-    }
-}
-
 /// Puts what an execution told after the log: what it printed, then its note on the rule in the slot. Answers whether
 /// it changed something and whether it failed.
 fn tell_done(
@@ -118,12 +98,13 @@ fn tell_done(
     ensures told { OnOk result (log.new ≡ log.old ++ (map Line (option_to_list done.old.line)
         ++ note_told (map_or [] (shown_text home.now) slot.now) done.old.note)) }
     ensures changed { IfOk result (λ facts. facts.changed ≡ done.old.changed) }
-    ensures failed { IfOk result (λ facts. facts.failed ≡ fails done.old.note) }
+    ensures failed { IfOk result (λ facts. facts.failed
+        ≡ has_failure (note_told (map_or [] (shown_text home.now) slot.now) done.old.note)) }
 {
-    let facts = facts_of(done);
+    let changed = done.changed;
     tell_line(done.line.take(), log)?;
-    tell_note(alloc, home, slot, &done.note, log)?;
-    Ok(facts)
+    let failed = tell_note(alloc, home, slot, &done.note, log)?;
+    Ok(Facts { changed, failed })
 }
 
 fn tell_line(line: Option<Text>, log: &mut Log) -> Result<(), NoMemory>
@@ -135,19 +116,32 @@ fn tell_line(line: Option<Text>, log: &mut Log) -> Result<(), NoMemory>
     Ok(())
 }
 
+/// Answers whether it is a note of a failure.
 fn tell_note(
     alloc: Global,
     home: &Package,
     slot: &Option<StatementRow<'_>>,
     note: &Option<Note>,
     log: &mut Log,
-) -> Result<(), NoMemory>
-    ensures { OnOk result (log.new ≡ log.old ++ note_told (map_or [] (shown_text home.now) slot.now) note.now) }
+) -> Result<bool, NoMemory>
+    ensures told { OnOk result (log.new ≡ log.old
+        ++ note_told (map_or [] (shown_text home.now) slot.now) note.now) }
+    ensures failed { IfOk result (λ failed. failed
+        ≡ has_failure (note_told (map_or [] (shown_text home.now) slot.now) note.now)) }
 {
-    if let Some(note) = note {
-        log.push(entry_on(alloc, home, slot, note)?)?;
-    }
-    Ok(())
+    let Some(note) = note else {
+        return Ok(false);
+    };
+    let entry = entry_on(alloc, home, slot, note)?;
+    let failed = is_failure(&entry);
+    log.push(entry)?;
+    Ok(failed)
+}
+
+fn is_failure(entry: &Entry) -> bool
+    ensures { result ≡ has_failure (entry.now ∷ []) }
+{
+    matches!(entry, Entry::Failure(_))
 }
 
 /// What is told of a note on the rule in a slot.
@@ -157,10 +151,10 @@ fn entry_on(
     slot: &Option<StatementRow<'_>>,
     note: &Note,
 ) -> Result<Entry, NoMemory>
-    ensures { IfOk result (λ entry. entry ∷ [] ≡ note_told (map_or [] (shown_text home.now) slot.now) (Some note.now)) }
+    ensures { IfOk result (λ entry. entry ≡ note_entry (map_or [] (shown_text home.now) slot.now) note.now) }
 {
     let rule = shown_slot(alloc, home, slot)?;
-    note_entry(alloc, rule.as_str(), note)
+    message::note_entry(alloc, rule.as_str(), note)
 }
 
 /// The rule in a slot, as it is shown; empty where there is none.
@@ -174,16 +168,5 @@ fn shown_slot(
     match slot {
         None => Ok(String::new(alloc)),
         Some(stmt) => stmt.shown(alloc, home),
-    }
-}
-
-/// What is told of a note on a rule, which is shown as `rule`: a field that is missing is a warning.
-fn note_entry(alloc: Global, rule: &str, note: &Note) -> Result<Entry, NoMemory>
-    ensures { IfOk result (λ entry. entry ∷ [] ≡ note_told rule.now (Some note.now)) }
-{
-    let text = message::note_text(alloc, rule, note)?;
-    match note {
-        Note::Missing(_) => Ok(Entry::Warning(text)),
-        _ => Ok(Entry::Failure(text)),
     }
 }

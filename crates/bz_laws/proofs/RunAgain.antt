@@ -17,11 +17,11 @@ use Rattle.bz_laws.proofs.SpelledDone.{marks_spelled, settled_spelled}
 use Rattle.bz_engine.specs.Scripts.{AreCommands}
 use Rattle.bz_engine.proofs.Failures.{log_fails}
 use Rattle.bz_engine.specs.Language.{meaning}
-use Rattle.bz_engine.specs.Outcome.{Run, Script, Told, IsOutcome, is_query, slots_of, some_failure, status_of, text_after, told_by, told_of}
+use Rattle.bz_engine.specs.Outcome.{Run, Script, Told, IsOutcome, at_the_end, is_query, slots_of, some_failure, status_of, text_after, told_by, told_of}
 use Rattle.bz_engine.specs.declared.report.Report.{Report}
 use Rattle.bz_engine.proofs.OneOutcome.{one_outcome}
 use Rattle.bz_laws.specs.Repeatable.{HasNamesOnce, are_passes_apart, is_looked_past, is_repeatable}
-use Rattle.bz_laws.specs.Written.{HaveUtf8Words, edited, left_by}
+use Rattle.bz_laws.specs.Written.{HaveUtf8Words, left_by}
 use Rattle.bz_laws.proofs.RunText.{reads_back, writes_again}
 use Rattle.bz_laws.proofs.ScriptAgain.{AreAlike, IsAtRest, all_for, commands_for, finds_nothing, left_at_rest, marks_joined, same_commands}
 use Rattle.bz_laws.proofs.StatusLaw.{status_whole}
@@ -97,7 +97,7 @@ three : (failed changed : Bool) → failed ≡ false → changed ≡ false → s
 three failed changed calm quiet = rw (calm, quiet) refl
 
 pub twice : SecondTime → (run : Run) (going : Bool) (file text second : List ℕ) (report again : Report) → AreCommands run.passes → HaveUtf8Words run.passes → is_query run.passes ≡ false → 2 ≤ run.max_depth
-    → is_repeatable run.passes ≡ true → (outcome : IsOutcome run file text (told_by report)) → status_of report ≢ 2 → AllByRecursion HasNamesOnce (edited outcome)
+    → is_repeatable run.passes ≡ true → (outcome : IsOutcome run file text (told_by report)) → status_of report ≢ 2 → AllByRecursion HasNamesOnce outcome.edited
     → IsOutcome (record run { keep_going = going }) text second (told_by again) → (status_of again ≡ 3) × (second ≡ text)
 twice law run going file text second report again commands words query two repeatable outcome good names run2 =
     let home = run.home in
@@ -106,23 +106,21 @@ twice law run going file text second report again commands words query two repea
     let b = and_parts (list_all (λ p. is_looked_past passes p.target) passes) (are_passes_apart passes) a.1 in
     let whole = status_whole run file text report outcome good in
     let done = whole.2 in
-    let same : edited outcome ≡ whole.1 = edited_all run file text (told_by report) outcome whole.1 done.read (λ e. whole.0) in
-    let calm : some_failure home passes (edited outcome) ≡ false = ap (some_failure home passes) same ∙ done.calm in
-    let present : some_missing (meaning home) passes (slots_of (edited outcome)) ≡ false = ap (λ ss. some_missing (meaning home) passes (slots_of ss)) same ∙ done.found in
-    let left = left_at_rest law home passes (edited outcome) commands repeatable names calm in
+    let same : outcome.edited ≡ whole.1 = edited_all run file text (told_by report) outcome whole.1 done.read (λ e. whole.0) in
+    let calm : some_failure home passes outcome.edited ≡ false = ap (some_failure home passes) same ∙ done.calm in
+    let present : some_missing (meaning home) passes (slots_of outcome.edited) ≡ false = ap (λ ss. some_missing (meaning home) passes (slots_of ss)) same ∙ done.found in
+    let left = left_at_rest law home passes outcome.edited commands repeatable names calm in
     let back = reads_back run file text (told_by report) commands words query two outcome in
-    let rests = all_back home passes back.found (left_by home passes (edited outcome)) (edited outcome) a.0 (no_lines passes passes query b.0) back.same left.0 left.1 in
-    let nothing = finds_nothing home passes back.found (edited outcome) commands repeatable rests.at_rest rests.alike in
+    let rests = all_back home passes back.found (left_by home passes outcome.edited) outcome.edited a.0 (no_lines passes passes query b.0) back.same left.0 left.1 in
+    let nothing = finds_nothing home passes back.found outcome.edited commands repeatable rests.at_rest rests.alike in
     let is : IsOutcome (record run { keep_going = going }) text (text_after home passes back.found) (told_of home passes back.found None false) =
-    inl (record {
-      statements = back.found;
-      fault = None;
-      read = back.file;
+    record {
+      edited = back.found;
+      ends = at_the_end None back.file refl;
       calm = λ h. nothing.calm;
       text_is = refl;
       changed = (λ h. absurd (false≢true h), λ change. absurd (nothing.unchanged change));
-      told_is = refl;
-    }) in
+    } in
     let one = (one_outcome (record run { keep_going = going }) text second (text_after home passes back.found) (told_by again) (told_of home passes back.found None false) run2 is).1 in
     let quiet : again.changed ≡ false = ap (λ (t : Told). t.changed) one in
     let fine : again.failed ≡ false = ap (λ (t : Told). t.failed) one ∙ log_fails home passes back.found ∙ ap (λ c. c || some_missing (meaning home) passes (slots_of back.found)) nothing.calm ∙ nothing.found ∙ present in (

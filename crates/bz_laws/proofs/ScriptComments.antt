@@ -19,7 +19,7 @@ use Rattle.bz_engine.specs.Language.{meaning}
 use Rattle.bz_engine.specs.Outcome.{Run, Script, Told, IsOutcome, is_query, left_in, slots_of}
 use Rattle.bz_engine.proofs.OneOutcome.{one_give}
 use Rattle.bz_laws.specs.Comments.{script_keeps_comments}
-use Rattle.bz_laws.specs.Written.{HaveUtf8Words, left_by, edited}
+use Rattle.bz_laws.specs.Written.{HaveUtf8Words, left_by}
 use Rattle.bz_laws.proofs.RunText.{reads_back}
 use Rattle.bz_laws.proofs.Unmarked.{left_alone}
 
@@ -99,8 +99,8 @@ same_comments (t ∷ found) (s ∷ ss) e =
 
 pub comments_written : (run : Run) (file text : List ℕ) (told : Told) → AreCommands run.passes → HaveUtf8Words run.passes → is_query run.passes ≡ false → 2 ≤ run.max_depth
     → (outcome : IsOutcome run file text told) → script_keeps_comments run.passes ≡ true
-    → (found : List Statement) (fault : Option SyntaxFault) → IsFile run.max_depth text found fault → map comments_of found ≡ map comments_of (edited outcome)
+    → (found : List Statement) (fault : Option SyntaxFault) → IsFile run.max_depth text found fault → map comments_of found ≡ map comments_of outcome.edited
 comments_written run file text told commands words query two outcome keep found fault read =
     let back = reads_back run file text told commands words query two outcome in
     let one = one_give run.max_depth 1 _ found back.found fault None read back.file in
-    ap (map comments_of) one.0 ∙ same_comments back.found (left_by run.home run.passes (edited outcome)) back.same ∙ comments_left run.home run.passes (edited outcome) keep
+    ap (map comments_of) one.0 ∙ same_comments back.found (left_by run.home run.passes outcome.edited) back.same ∙ comments_left run.home run.passes outcome.edited keep

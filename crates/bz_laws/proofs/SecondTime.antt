@@ -12,8 +12,9 @@ use Rattle.bz_label.specs.declared.arguments.Moved.TheVariants.{Values}
 use Rattle.bz_label.specs.declared.arguments.Setting.TheVariants.{ToKind, ToValues}
 use Rattle.bz_attribute.specs.Rules.{Rule, first_named, is_named, is_text, rule_of, value, kind_text}
 use Rattle.bz_attribute.specs.Lists.{is_attribute, parts}
-use Rattle.bz_attribute.specs.Effects.{argument, chooses, done, fails, has, is_chosen, not_a_list, slot_done, string}
+use Rattle.bz_attribute.specs.Effects.{argument, chooses, done, has, is_chosen, not_a_list, slot_done, string}
 use Rattle.bz_rule.specs.Add.{add, adds, fresh, new_elements}
+use Rattle.bz_engine.specs.Language.{fails}
 use Rattle.bz_rule.specs.Remove.{goes_with_all, remove, removes}
 use Rattle.bz_rule.specs.Replace.{is_replaced, replace, replaced, replaced_in, replaces, replaces_in}
 use Rattle.bz_rule.specs.Set.{new_of, new_value, set_if_absent, sets, sets_kind_of}

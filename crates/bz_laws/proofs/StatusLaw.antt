@@ -9,7 +9,7 @@ use Rattle.bz_engine.specs.declared.report.Report.{Report}
 use Rattle.bz_engine.specs.declared.report.SyntaxFault.{SyntaxFault}
 use Rattle.bz_engine.specs.declared.report.End.TheVariants.{Whole}
 use Rattle.bz_engine.specs.File.{IsFile}
-use Rattle.bz_engine.specs.Outcome.{Run, Told, IsOutcome, IsWholeRun, is_query, left_in, slots_of, text_of, some_failure, told_of, told_by, status_of}
+use Rattle.bz_engine.specs.Outcome.{Run, RunEnds, Told, IsOutcome, at_a_failure, at_the_end, is_query, left_in, slots_of, text_of, some_failure, told_of, told_by, status_of}
 use Rattle.bz_passes.proofs.Executions.{calm_passes}
 use Rattle.bz_engine.proofs.Failures.{log_fails}
 use Rattle.bz_engine.proofs.OneOutcome.{one_outcome}
@@ -46,25 +46,21 @@ record IsGood (run : Run) (file text : List ℕ) (report : Report) : Type 0 wher
   done : IsDoneWhole run file text statements
   changed : (report.changed ≡ true) ↔ SomeChange run.home run.passes statements
 
-good_run : (run : Run) (file text : List ℕ) (report : Report) → IsWholeRun run file text (told_by report) → report.failed ≡ false
+good : (run : Run) (file text : List ℕ) (report : Report) → IsOutcome run file text (told_by report) → report.failed ≡ false
     → IsGood run file text report
-good_run run file text report outcome calm = by outcome.fault outcome.read outcome.told_is
+good run file text report outcome calm = by outcome.ends
   where
-    by : (fault : Option SyntaxFault) → IsFile run.max_depth file outcome.statements fault → told_by report ≡ told_of run.home run.passes outcome.statements fault report.changed → IsGood run file text report
-    by None read told_is =
-        let none = or_none (some_failure run.home run.passes outcome.statements) (some_missing (meaning run.home) run.passes (slots_of outcome.statements)) (sym (log_fails run.home run.passes outcome.statements) ∙ sym (ap (λ (t : Told). t.failed) told_is) ∙ calm) in
+    by : RunEnds run file outcome.edited (told_by report) → IsGood run file text report
+    by (at_the_end None read told_is) =
+        let none = or_none (some_failure run.home run.passes outcome.edited) (some_missing (meaning run.home) run.passes (slots_of outcome.edited)) (sym (log_fails run.home run.passes outcome.edited) ∙ sym (ap (λ (t : Told). t.failed) told_is) ∙ calm) in
         record {
           end = ap (λ (t : Told). t.end) told_is;
-          statements = outcome.statements;
+          statements = outcome.edited;
           done = record { read = read; calm = none.0; found = none.1; text_is = outcome.text_is };
           changed = outcome.changed;
         }
-    by (Some fault) read told_is = absurd (false≢true (sym calm ∙ ap (λ (t : Told). t.failed) told_is))
-
-good : (run : Run) (file text : List ℕ) (report : Report) → IsOutcome run file text (told_by report) → report.failed ≡ false
-    → IsGood run file text report
-good run file text report (inl outcome) calm = good_run run file text report outcome calm
-good run file text report (inr stop) calm = absurd (false≢true (sym calm ∙ ap (λ (t : Told). t.failed) stop.told_is))
+    by (at_the_end (Some fault) read told_is) = absurd (false≢true (sym calm ∙ ap (λ (t : Told). t.failed) told_is))
+    by (at_a_failure s stops begins fails told_is) = absurd (false≢true (sym calm ∙ ap (λ (t : Told). t.failed) told_is))
 
 pub status_whole : (run : Run) (file text : List ℕ) (report : Report) → IsOutcome run file text (told_by report) → status_of report ≢ 2
     → (report.end ≡ Whole) × (statements : List Statement) × IsDoneWhole run file text statements
@@ -101,6 +97,6 @@ pub status_done : (run : Run) (file text : List ℕ) (report : Report) (statemen
 status_done run file text report statements outcome all =
     let change = change_told run.home run.passes statements in
     let is : IsOutcome run file text (told_of run.home run.passes statements None change.0) =
-    inl (record { statements = statements; fault = None; read = all.read; calm = λ h. all.calm; text_is = all.text_is; changed = change.1; told_is = refl }) in
+    record { edited = statements; ends = at_the_end None all.read refl; calm = λ h. all.calm; text_is = all.text_is; changed = change.1 } in
     let same = (one_outcome run file text text (told_by report) (told_of run.home run.passes statements None change.0) outcome is).1 in
     not_two report.failed report.changed (ap (λ (t : Told). t.failed) same ∙ log_fails run.home run.passes statements ∙ ap (λ b. b || some_missing (meaning run.home) run.passes (slots_of statements)) all.calm ∙ all.found)

@@ -16,10 +16,10 @@ use Rattle.bz_passes.proofs.ExchangeLaw.{slots_alone}
 use Rattle.bz_engine.specs.declared.report.End.TheVariants.{Whole}
 use Rattle.bz_engine.specs.File.{IsFile}
 use Rattle.bz_engine.specs.Language.{meaning}
-use Rattle.bz_engine.specs.Outcome.{Run, Script, Told, IsOutcome, is_query, left_in, slots_of, text_of}
+use Rattle.bz_engine.specs.Outcome.{Run, RunEnds, Script, Told, IsOutcome, at_a_failure, at_the_end, is_query, left_in, slots_of, text_of}
 use Rattle.bz_engine.proofs.OneOutcome.{one_give}
 use Rattle.bz_laws.specs.Untouched.{is_unmarked, StandsIn}
-use Rattle.bz_laws.specs.Written.{left_by, edited}
+use Rattle.bz_laws.specs.Written.{left_by}
 use Rattle.bz_laws.proofs.RunText.{edited_text, text_left_by}
 use Rattle.bz_laws.proofs.SecondRun.{not_at_failure}
 
@@ -92,18 +92,21 @@ text_stands (f ∷ []) s back = next_stands (layout_text s) f s back (text_stand
 text_stands (f ∷ g ∷ front) s back = next_stands (layout_text s) f g (front ++ s ∷ back) (text_stands (g ∷ front) s back)
 
 pub written_of : (run : Run) (file text : List ℕ) (told : Told) (outcome : IsOutcome run file text told) (front back : List Statement) (s : Statement)
-    → is_query run.passes ≡ false → edited outcome ≡ front ++ s ∷ back → is_unmarked run.passes s ≡ true
+    → is_query run.passes ≡ false → outcome.edited ≡ front ++ s ∷ back → is_unmarked run.passes s ≡ true
     → (text ≡ text_of (left_by run.home run.passes front ++ s ∷ left_by run.home run.passes back)) × StandsIn (layout_text s) text
 written_of run file text told outcome front back s query are h =
-    let is = edited_text run file text told outcome ∙ text_left_by run.home run.passes (edited outcome) query
+    let is = edited_text run file text told outcome ∙ text_left_by run.home run.passes outcome.edited query
     ∙ ap (λ ss. text_of (left_by run.home run.passes ss)) are ∙ ap text_of (unmarked_stays run.home run.passes front back s h) in
     (is, subst (StandsIn (layout_text s)) (sym is) (text_stands (left_by run.home run.passes front) s (left_by run.home run.passes back)))
 
 -- a run that comes to its end edits all statements of a file without fault
 pub edited_all : (run : Run) (file text : List ℕ) (told : Told) (outcome : IsOutcome run file text told) (ss : List Statement)
-    → IsFile run.max_depth file ss None → (run.keep_going ≡ false → told.end ≡ Whole) → edited outcome ≡ ss
-edited_all run file text told (inl outcome) ss read ends = (one_give run.max_depth 1 _ outcome.statements ss outcome.fault None outcome.read read).0
-edited_all run file text told (inr stop) ss read ends = absurd (not_at_failure run file text told stop ends)
+    → IsFile run.max_depth file ss None → (run.keep_going ≡ false → told.end ≡ Whole) → outcome.edited ≡ ss
+edited_all run file text told outcome ss read ends = by outcome.ends
+  where
+    by : RunEnds run file outcome.edited told → outcome.edited ≡ ss
+    by (at_the_end fault whole told_is) = (one_give run.max_depth 1 _ outcome.edited ss fault None whole read).0
+    by (at_a_failure s stops begins fails told_is) = absurd (not_at_failure run told s told_is stops ends)
 
 pub bytes_stay : (run : Run) (file text : List ℕ) (told : Told) (front back : List Statement) (s : Statement) → IsFile run.max_depth file (front ++ s ∷ back) None
     → file ≡ text_of (front ++ s ∷ back) → IsOutcome run file text told → (run.keep_going ≡ false → told.end ≡ Whole) → is_query run.passes ≡ false → is_unmarked run.passes s ≡ true

@@ -13,7 +13,7 @@ use Rattle.bz_laws.proofs.Commands.{unmentioned_stay}
 use Rattle.bz_laws.proofs.KeptArguments.{deleted, narrower, nothing_left}
 use Rattle.bz_engine.specs.Language.{meaning}
 use Rattle.bz_engine.specs.Outcome.{Run, Script, Told, IsOutcome, is_query, left_in, text_of}
-use Rattle.bz_laws.specs.Written.{left_by, edited}
+use Rattle.bz_laws.specs.Written.{left_by}
 use Rattle.bz_laws.proofs.RunText.{edited_text, text_left_by}
 use Rattle.bz_laws.proofs.Unmarked.{left_alone, left_of_both}
 
@@ -71,11 +71,11 @@ pub statement_keeps : (home : Package) (passes : Script) (front back : List Stat
 statement_keeps home passes front back s = (slot_after (meaning home) passes (Some s), keeps home passes s, one_left home passes front back s)
 
 pub text_keeps : (run : Run) (file text : List ℕ) (told : Told) (outcome : IsOutcome run file text told) (front back : List Statement) (s : Statement)
-    → is_query run.passes ≡ false → edited outcome ≡ front ++ s ∷ back
+    → is_query run.passes ≡ false → outcome.edited ≡ front ++ s ∷ back
     → (left : Option Statement) × KeepsUnmentioned run.passes s left × (text ≡ text_of (left_by run.home run.passes front ++ (left_in (left ∷ []) ++ left_by run.home run.passes back)))
 text_keeps run file text told outcome front back s query are = (
   slot_after (meaning run.home) run.passes (Some s),
   keeps run.home run.passes s,
-  edited_text run file text told outcome ∙ text_left_by run.home run.passes (edited outcome) query
+  edited_text run file text told outcome ∙ text_left_by run.home run.passes outcome.edited query
       ∙ ap (λ ss. text_of (left_by run.home run.passes ss)) are ∙ ap text_of (one_left run.home run.passes front back s),
 )

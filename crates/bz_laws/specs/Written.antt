@@ -1,5 +1,4 @@
 -- What a run writes is the text of what its script left.
-use Rattle.std.proofs.Common.{inl, inr}
 use Rattle.std.specs.Prelude.{◌≡◌, ℕ, IsTrue, List, map, None}
 use Rattle.std.specs.List.{list_all}
 use Rattle.std.specs.Str.{is_utf8}
@@ -11,7 +10,7 @@ use Rattle.bz_passes.specs.Passes.{slots_after}
 use Rattle.bz_rule.specs.Commands.{command_passes}
 use Rattle.bz_engine.specs.File.{IsFile}
 use Rattle.bz_engine.specs.Language.{meaning}
-use Rattle.bz_engine.specs.Outcome.{Run, Script, Told, IsOutcome, slots_of, left_in}
+use Rattle.bz_engine.specs.Outcome.{Script, slots_of, left_in}
 
 -- each word of each command is UTF-8, but for those of `print`, which writes none into a file
 abbrev pub HaveUtf8Words : Script → Type 0
@@ -20,11 +19,6 @@ HaveUtf8Words passes = IsTrue (list_all (λ p. list_all (command_passes is_utf8)
 -- what a script leaves of statements
 abbrev pub left_by : Package → Script → List Statement → List Statement
 left_by home passes statements = left_in (slots_after (meaning home) passes (slots_of statements))
-
--- the statements that a run edits: those of the file, or where it ends at a failure those before
-abbrev pub edited : {run : Run} {file text : List ℕ} {told : Told} → IsOutcome run file text told → List Statement
-edited (inl outcome) = outcome.statements
-edited (inr outcome) = outcome.before
 
 -- The text has no fault and is read as these statements, with their strings as they are spelled and on whatever lines.
 pub record IsTextOf (depth : ℕ) (statements : List Statement) (text : List ℕ) : Type 0 where

@@ -35,7 +35,7 @@ ghost use Rattle.bz_engine.specs.Scripts.{AreCommands};
 ghost use Rattle.bz_engine.specs.Outcome.{Run, Script, Told, IsOutcome, is_query};
 ghost use Rattle.bz_engine.specs.File.{IsFile};
 ghost use Rattle.bz_laws.specs.Comments.{script_keeps_comments};
-ghost use Rattle.bz_laws.specs.Written.{HaveUtf8Words, left_by, edited};
+ghost use Rattle.bz_laws.specs.Written.{HaveUtf8Words, left_by};
 
 /// The commands that `keeps_comments` names leave all comments of a statement, in their order.
 #[tactic(auto, using(crate::proofs::Commands::comments_after))]
@@ -92,5 +92,5 @@ pub fn a_run_loses_no_comment()
         → HaveUtf8Words run.passes → is_query run.passes ≡ false → 2 ≤ run.max_depth
         → (outcome : IsOutcome run file text told) → script_keeps_comments run.passes ≡ true
         → (found : List Statement) (fault : Option SyntaxFault) → IsFile run.max_depth text found fault
-        → map comments_of found ≡ map comments_of (edited outcome) }
+        → map comments_of found ≡ map comments_of outcome.edited }
 {}

@@ -8,7 +8,7 @@ ghost use Rattle.bz_engine.specs.Scripts.{AreCommands};
 ghost use Rattle.bz_engine.specs.Outcome.{Run, Script, IsOutcome, is_query, some_failure, status_of, told_by};
 ghost use Rattle.bz_engine.specs.declared.report.Report.{Report};
 ghost use Rattle.bz_laws.specs.Repeatable.{FindsNothing, HasNamesOnce, is_repeatable};
-ghost use Rattle.bz_laws.specs.Written.{HaveUtf8Words, edited, left_by};
+ghost use Rattle.bz_laws.specs.Written.{HaveUtf8Words, left_by};
 
 use crate::again::a_second_time_finds_nothing;
 
@@ -29,7 +29,7 @@ pub fn the_same_script_twice()
         → HaveUtf8Words run.passes → is_query run.passes ≡ false → 2 ≤ run.max_depth
         → is_repeatable run.passes ≡ true
         → (outcome : IsOutcome run file text (told_by report)) → status_of report ≢ 2
-        → AllByRecursion HasNamesOnce (edited outcome)
+        → AllByRecursion HasNamesOnce outcome.edited
         → IsOutcome (record run { keep_going = going }) text second (told_by again)
         → (status_of again ≡ 3) × (second ≡ text) }
 {

@@ -6,7 +6,7 @@ ghost use Rattle.bz_label.specs.Labels.{Package};
 ghost use Rattle.bz_rule.specs.Commands.{Command, after};
 ghost use Rattle.bz_laws.specs.Unmentioned.{arguments_of, is_delete, unmentioned, KeepsUnmentioned};
 ghost use Rattle.bz_engine.specs.Outcome.{Run, Script, Told, IsOutcome, is_query, left_in, text_of};
-ghost use Rattle.bz_laws.specs.Written.{left_by, edited};
+ghost use Rattle.bz_laws.specs.Written.{left_by};
 
 /// Of a statement that a command leaves, the arguments that it does not mention are those from before, in their order,
 /// each word for word and with its comments. `delete` alone leaves none.
@@ -24,7 +24,7 @@ pub fn what_no_command_mentions_stays()
         ≡ left_by home passes front ++ (left_in (left ∷ []) ++ left_by home passes back)) }
     ensures text { (run : Run) (file text : List ℕ) (told : Told) (outcome : IsOutcome run file text told)
         (front back : List Statement) (s : Statement)
-        → is_query run.passes ≡ false → edited outcome ≡ front ++ s ∷ back
+        → is_query run.passes ≡ false → outcome.edited ≡ front ++ s ∷ back
         → (left : Option Statement) × KeepsUnmentioned run.passes s left × (text
         ≡ text_of (left_by run.home run.passes front ++ (left_in (left ∷ []) ++ left_by run.home run.passes back))) }
 {}

@@ -8,7 +8,7 @@ ghost use Rattle.bz_engine.specs.declared.report.End.TheVariants.{Whole};
 ghost use Rattle.bz_engine.specs.File.{IsFile};
 ghost use Rattle.bz_engine.specs.Outcome.{Run, Script, Told, IsOutcome, is_query, text_of};
 ghost use Rattle.bz_laws.specs.Untouched.{is_unmarked, StandsIn};
-ghost use Rattle.bz_laws.specs.Written.{left_by, edited};
+ghost use Rattle.bz_laws.specs.Written.{left_by};
 
 /// A statement that no pass marks stays, at its place among the others. What a run writes is the text of it and of what
 /// the script left before it and after it. In a file that is laid out, its bytes are written as they stand in the file.
@@ -18,7 +18,7 @@ pub fn what_no_pass_marks_stays()
         → left_by home passes (front ++ s ∷ back) ≡ left_by home passes front ++ s ∷ left_by home passes back }
     ensures text { (run : Run) (file text : List ℕ) (told : Told) (outcome : IsOutcome run file text told)
         (front back : List Statement) (s : Statement)
-        → is_query run.passes ≡ false → edited outcome ≡ front ++ s ∷ back → is_unmarked run.passes s ≡ true
+        → is_query run.passes ≡ false → outcome.edited ≡ front ++ s ∷ back → is_unmarked run.passes s ≡ true
         → (text ≡ text_of (left_by run.home run.passes front ++ s ∷ left_by run.home run.passes back))
         × StandsIn (layout_text s) text }
     ensures bytes { (run : Run) (file text : List ℕ) (told : Told)

@@ -5,7 +5,7 @@ ghost use Rattle.bz_label.specs.Labels.{Package};
 ghost use Rattle.bz_engine.specs.declared.report.End.TheVariants.{Whole};
 ghost use Rattle.bz_engine.specs.Scripts.{AreCommands};
 ghost use Rattle.bz_engine.specs.Outcome.{Run, Script, Told, IsOutcome, is_query};
-ghost use Rattle.bz_laws.specs.Written.{HaveUtf8Words, left_by, edited, IsTextOf};
+ghost use Rattle.bz_laws.specs.Written.{HaveUtf8Words, left_by, IsTextOf};
 
 /// Whatever a run writes, if its script is no query: the text has no fault, and it is read as the statements that the
 /// script left of those that the run edited, with their strings as they are spelled and on whatever lines. A second run
@@ -18,7 +18,7 @@ pub fn what_is_written_reads_back()
     ensures read { (run : Run) (file text : List ℕ) (told : Told)
         → AreCommands run.passes → HaveUtf8Words run.passes → is_query run.passes ≡ false → 2 ≤ run.max_depth
         → (outcome : IsOutcome run file text told)
-        → IsTextOf run.max_depth (left_by run.home run.passes (edited outcome)) text }
+        → IsTextOf run.max_depth (left_by run.home run.passes outcome.edited) text }
     ensures again { (run : Run) (file text : List ℕ) (told : Told) → AreCommands run.passes
         → HaveUtf8Words run.passes → is_query run.passes ≡ false → 2 ≤ run.max_depth
         → IsOutcome run file text told

@@ -8,9 +8,8 @@ use Rattle.bz_tree.specs.Tree.{Statement}
 use Rattle.bz_layout.specs.Layout.{layout_text}
 use Rattle.bz_attribute.specs.declared.done.Done.{Done}
 use Rattle.bz_attribute.specs.declared.done.Note.{Note}
-use Rattle.bz_attribute.specs.Effects.{fails}
 use Rattle.bz_attribute.specs.Texts.{shown_text}
-use Rattle.bz_engine.specs.Language.{meaning, note_told}
+use Rattle.bz_engine.specs.Language.{fails, meaning, note_told}
 use Rattle.bz_label.specs.Labels.{Package, Target}
 use Rattle.bz_attribute.specs.Rules.{first_named, rule_of}
 use Rattle.bz_attribute.specs.Marks.{marks}
