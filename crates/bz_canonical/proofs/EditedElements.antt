@@ -8,11 +8,12 @@ use Rattle.bz_layout.specs.Pieces.{bytes_of, comments, indent, suffix_piece}
 use Rattle.bz_layout.specs.Respell.{respell}
 use Rattle.bz_token.specs.declared.token.Kind.TheVariants.{String}
 use Rattle.bz_canonical.specs.declared.edited.ListEdit.{ListEdit}
+use Rattle.bz_canonical.specs.declared.edited.ListText.{ListText}
 use Rattle.bz_canonical.specs.declared.edited.NewString.{NewString}
 use Rattle.bz_canonical.specs.declared.edited.Passed.{Passed}
 use Rattle.bz_canonical.specs.declared.lists.ReadElement.{ReadElement}
 use Rattle.bz_canonical.specs.declared.arguments.Pending.{Pending}
-use Rattle.bz_canonical.specs.private.Edited.{AreEdited, IsHeld, become, edited, edited_one, have_meant, is_meant, one_more}
+use Rattle.bz_canonical.specs.private.Edited.{AreEdited, AreHeld, AreUnmeant, IsHeld, become, edited, edited_one, have_meant, is_meant, none_passed, one_more}
 use Rattle.bz_canonical.specs.private.Elements.{Element, IsElementRead, are_broken, element_line, element_lines, element_written, is_noted}
 use Rattle.bz_canonical.proofs.ElementLists.{broken_more, flat_one, longer, one_at_least, or_yes, passed_more, passed_none}
 use Rattle.bz_canonical.proofs.GroupSegments.{or_no}
@@ -45,21 +46,21 @@ stays_one home edit e told = ap (λ b. if b then become edit.new e else e ∷ []
 becomes_one : (home : Package) (edit : ListEdit) (e : Element) → true ≡ is_meant home edit e.token → edited_one home edit e ≡ become edit.new e
 becomes_one home edit e told = ap (λ b. if b then become edit.new e else e ∷ []) (sym told)
 
+or_neither : (a b : Bool) → (a || b) ≡ false → (a ≡ false) × (b ≡ false)
+or_neither true b none = absurd cc
+or_neither false b none = (refl, none)
+
 -- where none is meant, all stay
 pub stay_all : (home : Package) (edit : ListEdit) (es : List Element) → have_meant home edit es ≡ false → edited home edit es ≡ es
 stay_all home edit [] none = refl
 stay_all home edit (e ∷ es) none =
     let both = or_neither (is_meant home edit e.token) (have_meant home edit es) none in
     ap (λ (xs : List Element). xs ++ edited home edit es) (stays_one home edit e (sym both.0)) ∙ ap (λ (xs : List Element). e ∷ xs) (stay_all home edit es both.1)
-  where
-    or_neither : (a b : Bool) → (a || b) ≡ false → (a ≡ false) × (b ≡ false)
-    or_neither true b none = absurd cc
-    or_neither false b none = (refl, none)
 
 -- what is passed
 
 pub edited_none : (home : Package) (edit : ListEdit) (lines : Bool) (front buffer : List ℕ) (at : Pending) → at.from.now ≡ front ++ at.rest.now
-    → AreEdited home edit lines (buffer ++ front) at.rest.now buffer (record { at = at; one = false; meant = false; left = false; broken = false })
+    → AreEdited home edit lines (buffer ++ front) at.rest.now buffer (none_passed at)
 edited_none home edit lines front buffer at is = record {
   written = [];
   broken = false;
@@ -153,3 +154,24 @@ edited_as home edit lines front inside old put new literal p read other k e told
     let line_is : line ≡ element_line (respell String) x = (λ i. e.front_is i ++ (quoted_is i ++ e.back_is i)) ∙ append_assoc C (10 ∷ indent 2) (quoted other.value.now ++ (44 ∷ S)) in
     edited_more home edit lines front inside old new line p read (record { from = read.rest; rest = read.rest }) true k e x (becomes_one home edit e.element is ∙ ap (λ new. become new e.element) some) e.noted_is line_is is
     (λ all h. held_put old put new line all p.at read pending new_is h)
+
+-- those that are not meant
+
+pub unmeant_none : (home : Package) (edit : ListEdit) (list : ListText) → AreUnmeant home edit list (none_passed list.begun)
+unmeant_none home edit list = record { written = []; broken = false; passed = passed_none list.on_lines list.begun.rest.now; none = refl }
+
+pub unmeant_more : (home : Package) (edit : ListEdit) (list : ListText) (p : Passed) (read : ReadElement) (at : Pending) → AreUnmeant home edit list p → IsElementRead list.on_lines p.one p.at.rest.now read
+    → false ≡ is_meant home edit read.string.token.now → AreUnmeant home edit list (one_more p (record { from = at.from; rest = read.rest }) false read.noted)
+unmeant_more home edit list p read at k e told = record {
+  written = k.written ++ element_written read;
+  broken = k.broken || (p.one || read.noted);
+  passed = passed_more list.on_lines p.one k.broken list.begun.rest.now p.at.rest.now k.written read k.passed e;
+  none = sym (meant_more home edit k.passed.elements e.element false false (sym k.none) (told ∙ ap (is_meant home edit) (sym e.token_is)));
+}
+
+-- they are held, as long as they stand as they are written
+pub held_more : (home : Package) (edit : ListEdit) (list : ListText) (p : Passed) (read : ReadElement) (otherwise now : Bool) → now ≡ (otherwise || read.otherwise) → (otherwise ≡ false → AreHeld home edit list p) → IsElementRead list.on_lines p.one p.at.rest.now read
+    → false ≡ is_meant home edit read.string.token.now → now ≡ false → AreHeld home edit list (one_more p (record { from = p.at.from; rest = read.rest }) false read.noted)
+held_more home edit list p read otherwise now now_is held e told plain =
+    let both = or_neither otherwise read.otherwise (sym now_is ∙ plain) in
+    λ buffer front is. edited_as_is home edit list.on_lines (buffer ++ front) list.begun.rest.now buffer p read (held both.0 buffer front is) e told both.1

@@ -19,12 +19,14 @@ use Rattle.bz_label.specs.Labels.{Package}
 use Rattle.bz_canonical.specs.Canonical.{argument_lines}
 use Rattle.bz_rule.specs.declared.forms.ListValue.{ListValue}
 use Rattle.bz_canonical.specs.declared.edited.ListEdit.{ListEdit}
+use Rattle.bz_canonical.specs.declared.edited.ListText.{ListText}
+use Rattle.bz_canonical.specs.declared.edited.Passed.{Passed}
 use Rattle.bz_canonical.specs.declared.edited.PassedList.{PassedList}
 use Rattle.bz_canonical.specs.private.Added.{IsListAlone, have_word, is_word, list_arg}
-use Rattle.bz_canonical.specs.private.Edited.{AreEdited, AreElementsEdited, EndsList, IsListEdited, IsWritten, Stays, edited, have_meant, left_args}
+use Rattle.bz_canonical.specs.private.Edited.{AreBegun, AreEdited, AreUnmeant, EndsList, IsListEdited, IsListText, IsWritten, PutsElements, Stays, edited, have_meant, left_args}
 use Rattle.bz_canonical.specs.private.Arguments.{IsHeadRead}
 use Rattle.bz_canonical.specs.private.Pendings.{IsPending}
-use Rattle.bz_canonical.specs.private.Elements.{Element, IsLast, are_broken, element_line, element_lines, element_list, is_noted}
+use Rattle.bz_canonical.specs.private.Elements.{Element, IsLast, are_broken, closing, element_line, element_lines, element_list, is_noted}
 use Rattle.bz_canonical.proofs.ElementLists.{alone_written, closed, elements_read, or_yes, written_broken}
 use Rattle.bz_canonical.proofs.GroupSegments.{or_no}
 use Rattle.bz_canonical.proofs.ListLines.{head_front, list_alone}
@@ -96,14 +98,22 @@ list_stays depth home edit text old buffer list l none = record {
   none = sym (edited_of depth home edit text old buffer list l).meant_is ∙ none;
 }
 
--- by what was read of the lines
-abbrev pub list_edited : (depth : ℕ) (home : Package) (edit : ListEdit) (text old buffer attr from rest : List ℕ) (list : PassedList) → from ≡ text → attr ≡ edit.attr.now → 1 < depth → IsHeadRead attr from (91 ∷ rest) true
-    → AreElementsEdited home edit from rest old buffer list → IsLast list.end.now → IsListEdited depth home edit text old buffer list
-list_edited depth home edit text old buffer attr from rest list from_is attr_is deep head all last = record {
-  inside = rest;
-  deep = deep;
-  head = subst (λ t. IsHeadRead edit.attr.now t (91 ∷ rest) true) from_is (subst (λ a. IsHeadRead a from (91 ∷ rest) true) attr_is head);
-  all = subst (λ t. AreElementsEdited home edit t rest old buffer list) from_is all;
+-- all are passed, and none is meant
+pub others_stay : (depth : ℕ) (home : Package) (edit : ListEdit) (lines end : List ℕ) (list : ListText) (p : Passed) → IsListText depth edit.attr.now lines list → AreUnmeant home edit list p → p.at.rest.now ≡ closing list.on_lines ++ end
+    → IsLast end → Stays depth home edit lines
+others_stay depth home edit lines end list p text others ends last =
+    let inside : List ℕ = list.begun.rest.now in
+    let read = elements_read list.on_lines p.one others.broken inside p.at.rest.now end others.written others.passed ends in
+    record { list = list_alone depth edit.attr.now lines inside end others.written p.one others.broken text.deep text.head read last; none = others.none }
+
+-- all are put
+abbrev pub all_put : (depth : ℕ) (home : Package) (edit : ListEdit) (lines old mid buffer : List ℕ) (text : ListText) (p : Passed) (list : PassedList) → IsListText depth edit.attr.now lines text → AreBegun home edit text old mid p
+    → PutsElements home edit text.on_lines p mid buffer list → IsLast list.end.now → IsListEdited depth home edit lines old buffer list
+all_put depth home edit lines old mid buffer text p list is begun puts last = record {
+  inside = text.begun.rest.now;
+  deep = is.deep;
+  head = is.head;
+  all = record { lines = text.on_lines; edited = λ front front_is. puts.0 (old ++ front) text.begun.rest.now (begun front (is.from_is ∙ front_is)); ends = puts.1 };
   last = last;
 }
 

@@ -15,7 +15,6 @@ pub mod SingleStrings
 pub mod OwnLayout
 pub mod ElementLists
 pub mod Pendings
-pub mod AddedElements
 pub mod ReadArguments
 pub mod ReadRules
 pub mod RuleLines

@@ -84,12 +84,3 @@ pub chooses_is : (home : Package) (attr value word : List ℕ) (notes : List (Li
 chooses_is home attr value word notes es suffix named =
     ap (map_or false (chooses home (Values (value ∷ [])))) (first_is attr word notes es suffix named)
     ∙ or_no (list_any (is_chosen home (Values (value ∷ []))) (segments (element_segs es))) ∙ chosen home value es
-
-pub value_lacks : (depth : ℕ) (home : Package) (sought : ListValue) (text inside rest end : List ℕ) (lines one : Bool) → 1 < depth → IsHeadRead sought.attr.now text (91 ∷ inside) true → AreOthers home sought.value.now lines one inside rest
-    → rest ≡ closing lines ++ end → IsLast end → LacksInLines (read_alone depth home text) sought
-value_lacks depth home sought text inside rest end lines one deep head o ends last =
-    let attr = sought.attr.now in
-    let value = sought.value.now in
-    let read = elements_read lines one o.broken inside rest end o.written o.passed ends in
-    let a = list_alone depth attr text inside end o.written one o.broken deep head read last in
-    λ args reads. ap (λ xs. map_or false (chooses home (Values (value ∷ []))) (first_named attr xs)) (a.same args reads) ∙ chooses_is home attr value a.name a.notes a.elements a.suffix a.named ∙ o.none

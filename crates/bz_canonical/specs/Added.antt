@@ -1,12 +1,10 @@
--- Whether a value is in an argument that has these lines, and what `add` of it makes of the lines (this project's own rule).
+-- What `add` of one value makes of an argument that has these lines (this project's own rule).
 -- Begin with `AddsToLines`.
 use Rattle.std.specs.Prelude.{◌≡◌, ℕ, List, [], ◌∷◌, ◌++◌, true, false, None}
-use Rattle.bz_token.specs.Common.{map_or}
 use Rattle.bz_tree.specs.Tree.{Segment}
 use Rattle.bz_label.specs.Labels.{Package}
 use Rattle.bz_rule.specs.Add.{add, adds}
-use Rattle.bz_label.specs.declared.arguments.Moved.TheVariants.{Values}
-use Rattle.bz_attribute.specs.Effects.{chooses, not_a_list}
+use Rattle.bz_attribute.specs.Effects.{not_a_list}
 use Rattle.bz_attribute.specs.Rules.{first_named}
 use Rattle.bz_canonical.specs.Canonical.{AloneLines, AreReadAlone, argument_lines}
 use Rattle.bz_rule.specs.declared.forms.ListValue.{ListValue}
@@ -28,7 +26,3 @@ pub record IsNew (home : Package) (new : ListValue) (args : List Segment) (lines
 abbrev pub AddsToLines : AloneLines → ListValue → List ℕ → List ℕ → EditedList → Type 0
 AddsToLines alone new before after Unchanged = (args : List Segment) → AreReadAlone alone.depth alone.lines args → IsPresent alone.home new args
 AddsToLines alone new before after Written = (written : List ℕ) × (after ≡ before ++ written) × ((args : List Segment) → AreReadAlone alone.depth alone.lines args → IsNew alone.home new args written)
-
--- Of the arguments that are read of these lines alone, no list of the first of the name has an element that equals the value.
-abbrev pub LacksInLines : AloneLines → ListValue → Type 0
-LacksInLines alone sought = (args : List Segment) → AreReadAlone alone.depth alone.lines args → map_or false (chooses alone.home (Values (sought.value.now ∷ []))) (first_named sought.attr.now args) ≡ false

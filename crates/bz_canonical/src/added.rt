@@ -1,8 +1,7 @@
-//! A value that is looked for in an argument whose value is one list of strings, or added to it, by the lines of the
-//! argument.
+//! A value that is added to an argument whose value is one list of strings, by the lines of the argument.
 
-ghost use Rattle.std.specs.Prelude.{◌≡◌, ◌<◌, ◌∷◌, ◌++◌, IfOk, IfSome, IsTrue, OnOk, true};
-ghost use Rattle.bz_canonical.specs.Added.{AddsToLines, LacksInLines};
+ghost use Rattle.std.specs.Prelude.{◌≡◌, ◌<◌, ◌∷◌, ◌++◌, IfOk, IfSome, OnOk, true};
+ghost use Rattle.bz_canonical.specs.Added.{AddsToLines};
 ghost use Rattle.bz_canonical.specs.Canonical.{read_alone};
 ghost use Rattle.bz_canonical.specs.private.Added.{is_word, last_line};
 ghost use Rattle.bz_canonical.specs.private.Arguments.{IsHeadRead};
@@ -10,7 +9,6 @@ ghost use Rattle.bz_canonical.specs.private.Arguments.{IsHeadRead};
 use crate::arguments::read_argument_name;
 use crate::edited::{EditedList, ListEdit, put_list_edited, put_pending};
 use crate::front::{after, are_same};
-use crate::lists::{after_elements, is_last, is_on_lines, read_element};
 use bz_attribute::equals::text_equals;
 use bz_attribute::{Env, literal_apart};
 use bz_label::{Package, quote};
@@ -53,36 +51,6 @@ pub fn put_added(
     put_last(env.alloc, new.value, list.passed.one, written)?;
     extend_from_slice(written, list.end)?;
     Ok(Some(EditedList::Written))
-}
-
-/// The value of the argument that has these lines is one list of strings, none of which equals the value
-/// (`execute_on_list` of bz_engine asks, for `remove` and `replace`). False: it may be so or not.
-pub fn lacks(home: &Package, lines: &str, sought: ListValue<'_>, max_depth: u8) -> bool
-    ensures { IsTrue result → LacksInLines (read_alone max_depth home.now lines.now) sought.entry }
-{
-    let Some(inside) = list_of(lines.as_bytes(), sought.attr.as_bytes(), max_depth) else {
-        return false;
-    };
-    let on_lines = is_on_lines(inside);
-    let mut rest = inside;
-    let mut one = false;
-    for _ in 0..inside.len() {
-        if let Some(end) = after_elements(rest, on_lines) {
-            return is_last(end);
-        }
-        let Some(next) = read_element(rest, on_lines, one) else {
-            return false;
-        };
-        let Some(equal) = is_value(home, next.string.token, sought.value) else {
-            return false;
-        };
-        if equal {
-            return false;
-        }
-        rest = next.rest;
-        one = true;
-    }
-    false
 }
 
 /// What follows the bracket of the list that is the value of the argument here.

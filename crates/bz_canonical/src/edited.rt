@@ -3,7 +3,7 @@
 
 ghost use Rattle.std.specs.Prelude.{◌≡◌, ◌∷◌, ◌++◌, [], ℕ, List, IfOk, IfSome, IsTrue, length, not, ◌&&◌};
 ghost use Rattle.bz_layout.specs.Pieces.{indent};
-ghost use Rattle.bz_canonical.specs.private.Edited.{AreElementsEdited, EditsElements, EndsList, IsListEdited, PassesElement, is_meant, one_more};
+ghost use Rattle.bz_canonical.specs.private.Edited.{AreBefore, AreBegun, ArePassedBy, EditsElements, EndsList, IsListEdited, IsListText, PassesElement, PutsElements, is_meant, none_passed, one_more};
 
 use crate::Known;
 use crate::added::{is_value, list_of};
@@ -56,16 +56,126 @@ pub(crate) fn put_edited(
     ensures { IfOk result (λ known. IfSome known
         (EditsElements max_depth home.now edit.entry lines.now written.old.items written.new.items)) }
 {
+    let Some(list) = list_in(lines, edit.attr, max_depth) else {
+        return Ok(None);
+    };
+    match pass_others(home, list, edit) {
+        Some(Others::All(end)) => Ok(is_last(end).then_some(EditedList::Unchanged)),
+        Some(Others::Before(before)) => put_from(home, list, before, edit, written),
+        None => Ok(None),
+    }
+}
+
+/// The elements of the list that is the value of an argument.
+#[derive(Clone, Copy)]
+struct ListText<'t> {
+    /// Where the argument begins, and its elements.
+    begun: Pending<'t>,
+    /// They stand on lines of their own.
+    on_lines: bool,
+}
+
+/// The list that is the value of the argument of these lines.
+#[inline(always)]
+fn list_in<'t>(lines: &'t str, attr: &str, max_depth: u8) -> Option<ListText<'t>>
+    ensures { IfSome result (IsListText max_depth attr.now lines.now) }
+{
     let from = lines.as_bytes();
-    let Some(rest) = list_of(from, edit.attr.as_bytes(), max_depth) else {
-        return Ok(None);
-    };
-    let at = Pending { from, rest };
+    let rest = list_of(from, attr.as_bytes(), max_depth)?;
+    Some(ListText {
+        begun: Pending { from, rest },
+        on_lines: is_on_lines(rest),
+    })
+}
+
+/// The elements of a list that stand before those that a command means.
+enum Others<'t> {
+    /// It means none; this follows the bracket after all.
+    All(&'t [u8]),
+    /// It means one.
+    Before(Before<'t>),
+}
+
+/// Elements before those that a command means.
+#[derive(Clone, Copy)]
+struct Before<'t> {
+    passed: Passed<'t>,
+    /// The first that is meant. None: it does not stand here.
+    first: Option<ReadElement<'t>>,
+}
+
+/// Passes the elements of a list up to the first that the command means. Where one of them stands otherwise than it is
+/// written, all are to be passed again. Most lists have none that is meant, and of these nothing has to be written.
+fn pass_others<'t>(home: &Package, list: ListText<'t>, edit: ListEdit<'_>) -> Option<Others<'t>>
+    ensures { IfSome result (ArePassedBy home.now edit.entry list.entry) }
+{
+    let mut passed = Passed::none(list.begun);
+    let mut otherwise = false;
+    for _ in 0..list.begun.rest.len() {
+        if let Some(end) = after_elements(passed.at.rest, list.on_lines) {
+            return Some(Others::All(end));
+        }
+        let next = read_element(passed.at.rest, list.on_lines, passed.one)?;
+        if is_meant(home, edit, next.string.token)? {
+            return Some(Others::Before(if otherwise {
+                Before {
+                    passed: Passed::none(list.begun),
+                    first: None,
+                }
+            } else {
+                Before {
+                    passed,
+                    first: Some(next),
+                }
+            }));
+        }
+        let at = Pending {
+            from: passed.at.from,
+            rest: next.rest,
+        };
+        passed = passed.with_one(at, false, next.noted);
+        otherwise = either(otherwise, next.otherwise);
+    }
+    None
+}
+
+/// Passes the first element that is meant, where it is known.
+#[inline(always)]
+fn pass_first<'t>(
+    before: Before<'t>,
+    edit: ListEdit<'_>,
+    written: &mut Vec<u8>,
+) -> Known<Passed<'t>>
+    ensures { IfOk result (λ known. IfSome known (λ more. (home : Package) (text : ListText)
+        → AreBefore home edit.entry text before.entry
+        → AreBegun home edit.entry text written.old.items written.new.items more)) }
+{
+    match before.first {
+        Some(first) => pass_element(before.passed, first, true, edit, written),
+        None => Ok(Some(before.passed)),
+    }
+}
+
+/// Writes the argument of a list as the command leaves it, of which it means some elements.
+fn put_from(
+    home: &Package,
+    text: ListText<'_>,
+    before: Before<'_>,
+    edit: ListEdit<'_>,
+    written: &mut Vec<u8>,
+) -> Known<EditedList>
+    ensures { IfOk result (λ known. IfSome known (λ edited. (depth : ℕ) (lines : List ℕ)
+        → IsListText depth edit.entry.attr.now lines text.entry → AreBefore home.now edit.entry text.entry before.entry
+        → EditsElements depth home.now edit.entry lines written.old.items written.new.items edited)) }
+{
     let begun = written.len();
-    let Some(start) = written_len(at, written) else {
+    let Some(start) = written_len(text.begun, written) else {
         return Ok(None);
     };
-    let Some(list) = put_elements_edited(home, at, edit, written)? else {
+    let Some(passed) = pass_first(before, edit, written)? else {
+        return Ok(None);
+    };
+    let Some(list) = put_elements_edited(home, text.on_lines, passed, edit, written)? else {
         return Ok(None);
     };
     if !is_last(list.end) {
@@ -138,6 +248,20 @@ pub(crate) struct Passed<'t> {
 }
 
 impl<'t> Passed<'t> {
+    /// None was passed.
+    #[inline(always)]
+    fn none(at: Pending<'t>) -> Passed<'t>
+        ensures { result ≡ none_passed at.entry }
+    {
+        Passed {
+            at,
+            one: false,
+            meant: false,
+            left: false,
+            broken: false,
+        }
+    }
+
     /// One was passed more, and one is left more, which has a comment or none.
     #[inline(always)]
     fn with_one(self, at: Pending<'t>, meant: bool, noted: bool) -> Passed<'t>
@@ -173,11 +297,11 @@ pub(crate) fn put_list_edited<'t>(
     ensures { IfOk result (λ known. IfSome known
         (IsListEdited max_depth home.now edit.entry lines.now written.old.items written.new.items)) }
 {
-    let from = lines.as_bytes();
-    let Some(rest) = list_of(from, edit.attr.as_bytes(), max_depth) else {
+    let Some(text) = list_in(lines, edit.attr, max_depth) else {
         return Ok(None);
     };
-    let Some(list) = put_elements_edited(home, Pending { from, rest }, edit, written)? else {
+    let passed = Passed::none(text.begun);
+    let Some(list) = put_elements_edited(home, text.on_lines, passed, edit, written)? else {
         return Ok(None);
     };
     if !is_last(list.end) {
@@ -186,29 +310,23 @@ pub(crate) fn put_list_edited<'t>(
     Ok(Some(list))
 }
 
-/// The same of the elements here, after what is pending.
+/// The same of the elements from these on that were passed, up to the bracket after all.
 fn put_elements_edited<'t>(
     home: &Package,
-    begun: Pending<'t>,
+    on_lines: bool,
+    begun: Passed<'t>,
     edit: ListEdit<'_>,
     written: &mut Vec<u8>,
 ) -> Known<PassedList<'t>>
-    ensures { IfOk result (λ known. IfSome known (AreElementsEdited home.now edit.entry begun.entry.from.now
-        begun.entry.rest.now written.old.items written.new.items)) }
+    ensures { IfOk result (λ known. IfSome known
+        (PutsElements home.now edit.entry on_lines begun.entry written.old.items written.new.items)) }
 {
-    let lines = is_on_lines(begun.rest);
-    let mut passed = Passed {
-        at: begun,
-        one: false,
-        meant: false,
-        left: false,
-        broken: false,
-    };
-    for _ in 0..begun.rest.len() {
-        if let Some(end) = after_elements(passed.at.rest, lines) {
+    let mut passed = begun;
+    for _ in 0..begun.at.rest.len() {
+        if let Some(end) = after_elements(passed.at.rest, on_lines) {
             return Ok(Some(PassedList { passed, end }));
         }
-        let Some(next) = read_element(passed.at.rest, lines, passed.one) else {
+        let Some(next) = read_element(passed.at.rest, on_lines, passed.one) else {
             return Ok(None);
         };
         let Some(meant) = is_meant(home, edit, next.string.token) else {

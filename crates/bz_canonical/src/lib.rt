@@ -37,7 +37,7 @@ mod statement;
 mod string_list;
 mod value;
 
-pub use added::{lacks, put_added};
+pub use added::put_added;
 use bz_memory::NoMemory;
 pub use chunk::{AsksOfRules, CanonicalChunk, read_canonical};
 pub use commented::{CommentPlace, comment_place};

@@ -2,7 +2,6 @@
 //! rule of which it edits one argument.
 
 ghost use Rattle.std.specs.Prelude.{◌≡◌, ◌++◌, ◌∷◌, [], IfOk, IfSome, IsTrue, OnOk, false, true};
-ghost use Rattle.bz_canonical.specs.Added.{LacksInLines};
 ghost use Rattle.bz_canonical.specs.Canonical.{argument_lines, between, read_alone};
 ghost use Rattle.bz_label.specs.declared.arguments.Attributes.TheVariants.{Named};
 ghost use Rattle.bz_label.specs.declared.arguments.Commented.TheVariants.{Attribute};
@@ -11,12 +10,12 @@ ghost use Rattle.bz_engine.specs.private.ArgumentEdits.{AddsArgument, EditsLines
 
 use crate::edit::ScriptRun;
 use bz_attribute::Env;
-use bz_canonical::{ArgumentPlace, EditedList, lacks, put_added, put_removed, put_replaced};
+use bz_canonical::{ArgumentPlace, EditedList, put_added, put_removed, put_replaced};
 use bz_label::quote;
 use bz_memory::{NoMemory, extend_from_slice};
 use bz_rule::Command;
 use bz_rule::commands::argument::put_argument;
-use bz_rule::forms::{ListValue, ReplacedValue, added_by, removed_by, replaced_by, set_by};
+use bz_rule::forms::{ListValue, added_by, removed_by, replaced_by, set_by};
 use std::alloc::Global;
 
 /// What a command makes of an argument.
@@ -105,73 +104,20 @@ fn execute_on_list(
     ensures { IfOk result (λ known. IfSome known (EditsList command.now
         (read_alone script.entry.max_depth script.entry.home.now lines.now) written.old.items written.new.items)) }
 {
-    if let Some(new) = added_by(command) {
-        let env = Env {
-            alloc: script.alloc,
-            home: script.home,
-        };
-        return put_added(env, lines, new, script.max_depth, written);
-    }
-    if let Some(old) = removed_by(command) {
-        return execute_remove(script, old, lines, written);
-    }
-    match replaced_by(command) {
-        Some(replaced) => execute_replace(script, replaced, lines, written),
-        None => Ok(None),
-    }
-}
-
-/// What `remove` of one value makes of the argument that has these lines. None: it is no list of strings that can be
-/// edited on its lines. Without `Written` nothing is said of the buffer's bytes.
-fn execute_remove(
-    script: ScriptRun<'_>,
-    old: ListValue<'_>,
-    lines: &str,
-    written: &mut Vec<u8>,
-) -> Result<Option<EditedList>, NoMemory>
-    ensures { IfOk result (λ known. IfSome known (EditsList
-        (Remove (Named old.entry.attr.now) (old.entry.value.now ∷ []))
-        (read_alone script.entry.max_depth script.entry.home.now lines.now) written.old.items written.new.items)) }
-{
-    if lacks_in_few_lines(script, old, lines) {
-        return Ok(Some(EditedList::Unchanged));
-    }
-    put_removed(script.home, lines, old, script.max_depth, written)
-}
-
-/// What `replace` of one value makes of the argument that has these lines. None: it is no list of strings that can be
-/// edited on its lines. Without `Written` nothing is said of the buffer's bytes.
-fn execute_replace(
-    script: ScriptRun<'_>,
-    replaced: ReplacedValue<'_>,
-    lines: &str,
-    written: &mut Vec<u8>,
-) -> Result<Option<EditedList>, NoMemory>
-    ensures { IfOk result (λ known. IfSome known (EditsList
-        (Replace (Named replaced.entry.attr.now) replaced.entry.old.now replaced.entry.new.now)
-        (read_alone script.entry.max_depth script.entry.home.now lines.now) written.old.items written.new.items)) }
-{
-    let old = ListValue {
-        attr: replaced.attr,
-        value: replaced.old,
-    };
-    if lacks_in_few_lines(script, old, lines) {
-        return Ok(Some(EditedList::Unchanged));
-    }
     let env = Env {
         alloc: script.alloc,
         home: script.home,
     };
-    put_replaced(env, lines, replaced, script.max_depth, written)
-}
-
-/// These lines are few, and have a list that lacks the value. Most lists lack it, and of these nothing has to be
-/// written; a long one is gone over once.
-fn lacks_in_few_lines(script: ScriptRun<'_>, sought: ListValue<'_>, lines: &str) -> bool
-    ensures { IsTrue result
-        → LacksInLines (read_alone script.entry.max_depth script.entry.home.now lines.now) sought.entry }
-{
-    lines.len() <= LONGEST && lacks(script.home, lines, sought, script.max_depth)
+    if let Some(new) = added_by(command) {
+        return put_added(env, lines, new, script.max_depth, written);
+    }
+    if let Some(old) = removed_by(command) {
+        return put_removed(script.home, lines, old, script.max_depth, written);
+    }
+    match replaced_by(command) {
+        Some(replaced) => put_replaced(env, lines, replaced, script.max_depth, written),
+        None => Ok(None),
+    }
 }
 
 /// The lines of the argument that the command adds where none has its name. False: they are not easily written.

@@ -19,13 +19,6 @@ is_word home word token = map_or false (λ value. same home value word) (value_o
 abbrev pub have_word : Package → List ℕ → List Element → Bool
 have_word home word es = list_any (λ e. is_word home word e.token) es
 
--- some elements, none of which equals the word
-pub record AreOthers (home : Package) (word : List ℕ) (lines one : Bool) (text rest : List ℕ) : Type 0 where
-  pub written : List ℕ
-  pub broken : Bool
-  pub passed : ArePassed lines text rest written one broken
-  pub none : have_word home word passed.elements ≡ false
-
 abbrev pub list_arg : List (List ℕ) → List ℕ → List Element → Option (List ℕ) → Segment
 list_arg notes word es suffix = record { before = notes; nodes = leaf Identifier word ∷ leaf Operator (codes "=") ∷ element_list es ∷ []; suffix = suffix }
 

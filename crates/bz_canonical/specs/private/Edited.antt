@@ -16,7 +16,11 @@ use Rattle.bz_canonical.specs.Canonical.{argument_lines}
 use Rattle.bz_canonical.specs.declared.edited.EditedList.{EditedList}
 use Rattle.bz_canonical.specs.declared.edited.EditedList.TheVariants.{Unchanged, Written}
 use Rattle.bz_canonical.specs.declared.edited.ListEdit.{ListEdit}
+use Rattle.bz_canonical.specs.declared.edited.Before.{Before}
+use Rattle.bz_canonical.specs.declared.edited.ListText.{ListText}
 use Rattle.bz_canonical.specs.declared.edited.NewString.{NewString}
+use Rattle.bz_canonical.specs.declared.edited.Others.{Others}
+use Rattle.bz_canonical.specs.declared.edited.Others.TheVariants as others
 use Rattle.bz_canonical.specs.declared.edited.Passed.{Passed}
 use Rattle.bz_canonical.specs.declared.edited.PassedList.{PassedList}
 use Rattle.bz_canonical.specs.declared.lists.ReadElement.{ReadElement}
@@ -72,6 +76,45 @@ abbrev pub PassesElement : Passed → ReadElement → Bool → ListEdit → List
 PassesElement p read meant edit old new more =
     (home : Package) (lines : Bool) (front inside : List ℕ) → AreEdited home edit lines front inside old p → IsElementRead lines p.one p.at.rest.now read → meant ≡ is_meant home edit read.string.token.now
     → AreEdited home edit lines front inside new more
+
+-- elements of which none was passed
+abbrev pub none_passed : Pending → Passed
+none_passed at = record { at = at; one = false; meant = false; left = false; broken = false }
+
+-- the elements from some on, up to the bracket after all
+abbrev pub PutsElements : Package → ListEdit → Bool → Passed → List ℕ → List ℕ → PassedList → Type 0
+PutsElements home edit lines p old new list =
+    ((front inside : List ℕ) → AreEdited home edit lines front inside old p → AreEdited home edit lines front inside new list.passed) × (list.passed.at.rest.now ≡ closing lines ++ list.end.now)
+
+-- the list that is the value of the argument of a name, which has these lines
+pub record IsListText (depth : ℕ) (attr lines : List ℕ) (list : ListText) : Type 0 where
+  pub deep : 1 < depth
+  pub from_is : list.begun.from.now ≡ lines
+  pub head : IsHeadRead attr lines (91 ∷ list.begun.rest.now) true
+
+-- some of its elements, none of which is meant
+pub record AreUnmeant (home : Package) (edit : ListEdit) (list : ListText) (p : Passed) : Type 0 where
+  pub written : List ℕ
+  pub broken : Bool
+  pub passed : ArePassed list.on_lines list.begun.rest.now p.at.rest.now written p.one broken
+  pub none : have_meant home edit passed.elements ≡ false
+
+-- some of its elements; what they are then is written after what was in the buffer
+abbrev pub AreBegun : Package → ListEdit → ListText → List ℕ → List ℕ → Passed → Type 0
+AreBegun home edit list old buffer p = (front : List ℕ) → list.begun.from.now ≡ front ++ list.begun.rest.now → AreEdited home edit list.on_lines (old ++ front) list.begun.rest.now buffer p
+
+-- some of its elements, all of which is pending, whatever is in the buffer
+abbrev pub AreHeld : Package → ListEdit → ListText → Passed → Type 0
+AreHeld home edit list p = (buffer : List ℕ) → AreBegun home edit list buffer buffer p
+
+-- the same, up to the first that is meant, where that stands here
+pub record AreBefore (home : Package) (edit : ListEdit) (list : ListText) (before : Before) : Type 0 where
+  pub held : AreHeld home edit list before.passed
+  pub first : IfSome before.first (λ first. IsElementRead list.on_lines before.passed.one before.passed.at.rest.now first × (true ≡ is_meant home edit first.string.token.now))
+
+abbrev pub ArePassedBy : Package → ListEdit → ListText → Others → Type 0
+ArePassedBy home edit list (others.All end) = (p : Passed) × AreUnmeant home edit list p × (p.at.rest.now ≡ closing list.on_lines ++ end.now)
+ArePassedBy home edit list (others.Before before) = AreBefore home edit list before
 
 -- all elements of a list, which stand in the text after its first bracket; what is written stands after what was in the buffer
 pub record AreElementsEdited (home : Package) (edit : ListEdit) (text inside old buffer : List ℕ) (list : PassedList) : Type 0 where
