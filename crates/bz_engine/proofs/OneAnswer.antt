@@ -1,5 +1,4 @@
 -- A chunk gives one answer.
-use Rattle.bz_memory.specs.NoMemory.{no_memory}
 use Rattle.std.proofs.Common.{◌≡◌, ℕ, List, [], ◌∷◌, false, refl, sym, ◌∙◌, ap, subst, ◌⊎◌, inl, inr}
 use Rattle.std.specs.Prelude.{Option, None, Some, Result, Ok, Err, IsSome, IsNone}
 use Rattle.std.specs.Str.{IsUtf8, IsValidUpTo}
@@ -7,10 +6,9 @@ use Rattle.std.proofs.lemmas.Bool.{false≢true}
 use Rattle.std.proofs.lemmas.Option.{none-some}
 use Rattle.std.proofs.lemmas.Str.{utf8_valid_len-IsValidUpTo}
 use Rattle.bz_token.specs.declared.fault.LexFault.{LexFault}
-use Rattle.bz_token.specs.declared.fault.LexFault.TheVariants as lex
 use Rattle.bz_token.specs.Places.{Placed}
 use Rattle.bz_token.specs.Reading.{AreTokensOf}
-use Rattle.bz_token.specs.Faults.{IsFault}
+use Rattle.bz_token.specs.Faults.{IsFirstFault}
 use Rattle.bz_token.proofs.OneFault.{one_fault, one_tokens, no_fault}
 use Rattle.bz_tree.specs.declared.fault.ParseFault.TheVariants as parse
 use Rattle.bz_tree.specs.Tree.{Statement}
@@ -103,8 +101,7 @@ one_by_tokens first bytes ts (Err (Parse (parse.NotAStatement l))) (Err (Parse (
 -- The ways to an answer: the first fault of the tokens, or the tokens, or bytes that are no text.
 record IsLexFault (first depth : ℕ) (bytes : List ℕ) (answer : Result (Option Statement) SyntaxFault) : Type 0 where
   pub fault : LexFault
-  pub is : IsFault first depth bytes fault
-  pub some : fault ≡ lex.OutOfMemory no_memory → ⊥
+  pub is : IsFirstFault first depth bytes fault
   pub answer_is : answer ≡ Err (Parse (parse.Lex fault))
 
 record IsByTokens (first depth : ℕ) (bytes : List ℕ) (answer : Result (Option Statement) SyntaxFault) : Type 0 where
@@ -126,16 +123,16 @@ by_way first depth bytes (Ok (Some s)) g = inl (g.0, inr (record { tokens = g.1.
 by_way first depth bytes (Ok None) g = inl (g.0, inr (record { tokens = g.1.tokens; are = g.1.are; by = g.1.none }))
 by_way first depth bytes (Err (NotUtf8 line col)) g = inr (record { none = g.0; n = g.1.0; valid = g.1.1; answer_is = ap (λ x. Err x) g.1.2 })
 by_way first depth bytes (Err (Parse (parse.OutOfMemory _))) g = absurd (g.2 refl)
-by_way first depth bytes (Err (Parse (parse.Lex f))) g = inl (g.0, inl (record { fault = f; is = g.1.0; some = g.1.1; answer_is = refl }))
+by_way first depth bytes (Err (Parse (parse.Lex f))) g = inl (g.0, inl (record { fault = f; is = g.1; answer_is = refl }))
 by_way first depth bytes (Err (Parse (parse.Indented line))) g = inl (g.0, inr (record { tokens = g.1.tokens; are = g.1.are; by = g.1.is }))
 by_way first depth bytes (Err (Parse (parse.NotAStatement line))) g = inl (g.0, inr (record { tokens = g.1.tokens; are = g.1.are; by = g.1.is }))
 
 one_of_texts : (first depth : ℕ) (bytes : List ℕ) (a b : Result (Option Statement) SyntaxFault)
     → (IsLexFault first depth bytes a ⊎ IsByTokens first depth bytes a) → (IsLexFault first depth bytes b ⊎ IsByTokens first depth bytes b) → a ≡ b
 one_of_texts first depth bytes a b (inl p) (inl q) =
-    p.answer_is ∙ ap (λ f. Err (Parse (parse.Lex f))) (one_fault first depth bytes p.fault q.fault p.some q.some p.is q.is) ∙ sym q.answer_is
-one_of_texts first depth bytes a b (inl p) (inr q) = absurd (no_fault first depth bytes q.tokens p.fault q.are p.is p.some)
-one_of_texts first depth bytes a b (inr p) (inl q) = absurd (no_fault first depth bytes p.tokens q.fault p.are q.is q.some)
+    p.answer_is ∙ ap (λ f. Err (Parse (parse.Lex f))) (one_fault first depth bytes p.fault q.fault p.is q.is) ∙ sym q.answer_is
+one_of_texts first depth bytes a b (inl p) (inr q) = absurd (no_fault first depth bytes q.tokens p.fault q.are p.is)
+one_of_texts first depth bytes a b (inr p) (inl q) = absurd (no_fault first depth bytes p.tokens q.fault p.are q.is)
 one_of_texts first depth bytes a b (inr p) (inr q) =
     one_by_tokens first bytes p.tokens a b p.by
     (subst (λ ts. GoesBy first bytes ts b) (one_tokens first depth bytes q.tokens p.tokens q.are p.are) q.by)

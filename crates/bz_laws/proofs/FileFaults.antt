@@ -4,7 +4,7 @@ use Rattle.std.specs.Prelude.{◌↔◌, Option, None, Some, Result, Ok, Err, if
 use Rattle.std.specs.List.{concat}
 use Rattle.bz_token.specs.declared.fault.LexFault.{LexFault}
 use Rattle.bz_token.specs.Chunks.{chunks}
-use Rattle.bz_token.specs.Faults.{IsFault}
+use Rattle.bz_token.specs.Faults.{IsFirstFault}
 use Rattle.bz_token.specs.FreshStart.{AreTokensOfChunks, tokens_on_lines, fault_on_lines, is_line_of, line_of}
 use Rattle.bz_token.specs.Places.{Placed, line_at}
 use Rattle.bz_token.specs.Reading.{AreTokensOf}
@@ -39,7 +39,7 @@ gives_on_lines line depth c tokens lexical (Ok found) same g = gives_found line 
 gives_on_lines line depth c tokens lexical (Err (NotUtf8 l col)) same g = g
 gives_on_lines line depth c tokens lexical (Err (Parse (OutOfMemory _))) same g = absurd (g.2 refl)
 gives_on_lines line depth c tokens lexical (Err (Parse (Lex f))) same g =
-    let read = (fault_read line depth c f g.1.1).0 g.1.0 in
+    let read = (fault_read line depth c f).0 g.1 in
     (g.0, sym (same read.0 (Some f) read.1).1)
 gives_on_lines line depth c tokens lexical (Err (Parse (Indented l))) same g =
     let here = same g.1.tokens None g.1.are in
@@ -62,7 +62,7 @@ on_lines_gives line depth c tokens lexical (Err (NotUtf8 l col)) read g = g
 on_lines_gives line depth c tokens lexical (Err (Parse (OutOfMemory _))) read g = absurd g.1
 on_lines_gives line depth c tokens lexical (Err (Parse (Lex f))) read g =
     let here = whole_tokens line depth c tokens lexical (Some f) read g.1 in
-    (g.0, (here.1, here.0), λ same. absurd cc)
+    (g.0, here.0, λ same. absurd cc)
 on_lines_gives line depth c tokens lexical (Err (Parse (Indented l))) read g =
     (g.0, record { tokens = tokens; are = whole_tokens line depth c tokens lexical None read g.1.0; is = g.1.1 }, λ same. absurd cc)
 on_lines_gives line depth c tokens lexical (Err (Parse (NotAStatement l))) read g =
@@ -144,8 +144,8 @@ lexical_given tokens lexical line (c ∷ cs) ss f g = by_answer g.0 g.1 g.2 (λ 
     by_answer (Ok None) gives after next = next ss after
     by_answer (Ok (Some s)) gives after next = next after.0 after.2
 
-pub lexical_of_file : (depth : ℕ) (bytes : List ℕ) (ss : List Statement) (f : LexFault) → IsFile depth bytes ss (Some (Parse (Lex f))) → IsFault 1 depth bytes f
+pub lexical_of_file : (depth : ℕ) (bytes : List ℕ) (ss : List Statement) (f : LexFault) → IsFile depth bytes ss (Some (Parse (Lex f))) → IsFirstFault 1 depth bytes f
 lexical_of_file depth bytes ss f file =
     let read = some_reading 1 depth bytes in
     let lexical = lexical_given read.0 read.1 1 (chunks bytes) ss f ((by_its_lines depth bytes ss (Some (Parse (Lex f))) read.0 read.1 read.2).0 file) in
-    (whole_tokens 1 depth bytes read.0 read.1 (Some f) read.2 lexical).1
+    (whole_tokens 1 depth bytes read.0 read.1 (Some f) read.2 lexical).0

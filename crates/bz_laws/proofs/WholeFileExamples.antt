@@ -10,7 +10,9 @@ use Rattle.bz_token.specs.Lexical.{keywords}
 use Rattle.bz_token.specs.Places.{Placed}
 use Rattle.bz_token.specs.Reading.{Piece, AreTokensOf}
 use Rattle.bz_token.specs.UpToFault.{IsReadAs as IsReadUpTo}
+use Rattle.bz_token.proofs.BadPlaces.{bad_bracket, bad_says}
 use Rattle.bz_token.proofs.Stops.{token_ended}
+use Rattle.bz_token.proofs.Unique.{place_stuck}
 use Rattle.bz_tree.specs.declared.fault.ParseFault.TheVariants.{Lex}
 use Rattle.bz_tree.specs.declared.tree.Class.TheVariants.{Comment, Other}
 use Rattle.bz_tree.specs.Brackets.{leaf_of, no_token, single}
@@ -128,7 +130,6 @@ faulty = codes "x\n\n)\n"
 up_to_fault : IsReadUpTo 1 1 faulty tokens (Some (BadBracket 3 1))
 unfolding keywords
 up_to_fault = (
-  λ e. cc,
   record {
     pieces = piece Identifier (codes "x") ∷ piece Newline newline ∷ piece Newline newline ∷ [];
     gap = [];
@@ -142,11 +143,10 @@ up_to_fault = (
         (codes ")\n", record { bytes_are = refl; gap = refl; token = token_ended Newline newline (codes ")\n") refl refl; fits = refl }, refl),
       ),
     );
+    stuck = place_stuck 1 [] [] (codes ")\n") refl refl (bad_says 1 [] (codes ")\n") bad_bracket refl).never;
     is_gap = refl;
     after_gap = refl;
-    bad = refl;
-    line_is = refl;
-    col_is = refl;
+    is = refl;
   },
   refl,
 )

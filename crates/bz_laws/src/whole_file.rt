@@ -4,7 +4,7 @@ ghost use Rattle.std.specs.Prelude.{◌≡◌, ◌↔◌, ℕ, List, Option, Non
 ghost use Rattle.std.specs.Str.{IsUtf8, IsValidUpTo};
 ghost use Rattle.bz_token.specs.Chunks.{chunks};
 ghost use Rattle.bz_token.specs.declared.fault.LexFault.{LexFault};
-ghost use Rattle.bz_token.specs.Faults.{IsFault};
+ghost use Rattle.bz_token.specs.Faults.{IsFirstFault};
 ghost use Rattle.bz_token.specs.Places.{Placed};
 ghost use Rattle.bz_token.specs.Reading.{AreTokensOf};
 ghost use Rattle.bz_token.specs.UpToFault.{IsReadAs};
@@ -38,7 +38,7 @@ pub fn a_file_is_read_up_to_its_fault()
         → (IsFile depth bytes statements fault
         ↔ AreStatementsOnLines tokens lexical 1 (chunks bytes) statements fault) }
     ensures lexical { (depth : ℕ) (bytes : List ℕ) (statements : List Statement) (fault : LexFault)
-        → IsFile depth bytes statements (Some (Parse (Lex fault))) → IsFault 1 depth bytes fault }
+        → IsFile depth bytes statements (Some (Parse (Lex fault))) → IsFirstFault 1 depth bytes fault }
     ensures byte { (depth : ℕ) (bytes : List ℕ) (statements : List Statement) (line col : ℕ)
         → IsFile depth bytes statements (Some (NotUtf8 line col))
         → (n : ℕ) × IsValidUpTo bytes n × (NotUtf8 line col ≡ not_utf8 1 n bytes) }

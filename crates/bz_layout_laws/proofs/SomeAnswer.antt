@@ -3,10 +3,9 @@ use Rattle.bz_memory.specs.NoMemory.{no_memory}
 use Rattle.std.proofs.Common.{◌≡◌, ℕ, List, ◌++◌, [], Bool, true, false, Option, None, Some, IsNone, IsSome, refl, sym, ap, subst, ◌∙◌, ◌⊎◌, inl, inr}
 use Rattle.std.proofs.lemmas.Bool.{false≢true}
 use Rattle.bz_token.specs.declared.fault.LexFault.{LexFault}
-use Rattle.bz_token.specs.declared.fault.LexFault.TheVariants as lex
 use Rattle.bz_token.specs.Places.{Placed}
 use Rattle.bz_token.specs.Reading.{AreTokensOf}
-use Rattle.bz_token.specs.Faults.{IsFault}
+use Rattle.bz_token.specs.Faults.{IsFirstFault}
 use Rattle.bz_token.proofs.OneReading.{tokens_or_fault}
 use Rattle.bz_tree.specs.declared.fault.ParseFault.TheVariants.{OutOfMemory, Lex, Indented, NotAStatement}
 use Rattle.bz_tree.specs.Tree.{Segment, Statement, items_of}
@@ -96,6 +95,6 @@ by_tokens first depth bytes ts are = at_seen (first_seen ts) refl
 pub some_answer : (first depth : ℕ) (bytes : List ℕ) → HasAnswer first depth bytes
 some_answer first depth bytes = by_reading (tokens_or_fault first depth bytes)
   where
-    by_reading : ((ts : List Placed) × AreTokensOf first depth bytes ts) ⊎ ((f : LexFault) × (f ≡ lex.OutOfMemory no_memory → ⊥) × IsFault first depth bytes f) → HasAnswer first depth bytes
+    by_reading : ((ts : List Placed) × AreTokensOf first depth bytes ts) ⊎ ((f : LexFault) × IsFirstFault first depth bytes f) → HasAnswer first depth bytes
     by_reading (inl found) = by_tokens first depth bytes found.0 found.1
-    by_reading (inr fault) = inr (inr (Lex fault.0, lex_some fault.0, (fault.2, fault.1)))
+    by_reading (inr fault) = inr (inr (Lex fault.0, lex_some fault.0, fault.1))

@@ -5,7 +5,6 @@ use Rattle.std.specs.Char.{is_ascii_digit}
 use Rattle.std.proofs.lemmas.Bool.{cases_Bool, false≢true, or_parts, or_right}
 use Rattle.bz_token.proofs.Units.{begins_is}
 use Rattle.bz_token.specs.declared.fault.LexFault.{LexFault}
-use Rattle.bz_token.specs.declared.fault.LexFault.TheVariants as faults
 use Rattle.bz_token.specs.declared.scan_string.Opening.{Opening}
 use Rattle.bz_token.specs.declared.token.Kind.TheVariants.{String}
 use Rattle.bz_token.specs.declared.cutter.scan.Scan.{Scan}
@@ -14,17 +13,21 @@ use Rattle.bz_token.specs.declared.cutter.scan.LineKind.TheVariants.{Blank}
 use Rattle.bz_token.specs.declared.cutter.scan.CutState.TheVariants.{Plain}
 use Rattle.bz_token.specs.private.CutSteps.{is_ended, outside, next, start, run}
 use Rattle.bz_token.specs.Cuts.{EndsBefore, ends_in_newline}
-use Rattle.bz_token.specs.Places.{Placed}
+use Rattle.bz_token.specs.Places.{Placed, line_at, column_at}
 use Rattle.bz_token.specs.Lexical.{is_newline}
-use Rattle.bz_token.specs.Brackets.{is_inside, is_line, is_opening_bracket, is_closing_bracket, closes_innermost, fits, open_after_token}
+use Rattle.bz_token.specs.Brackets.{is_inside, is_line, is_opening_bracket, is_closing_bracket, closes_innermost, fits, open_after_token, open_tokens}
 use Rattle.bz_token.specs.Reading.{begins_gap, Piece, IsReading, open_after, bytes_of, tokens_of}
-use Rattle.bz_token.specs.Faults.{IsOpenText, IsBadNumber, IsBadBackslash, IsBadCharacter, IsBadBracket, IsTooDeep, IsFaultAt, IsOpenBracket, IsFault}
-use Rattle.bz_token.specs.UpToFault.{read_before, IsReadAs}
+use Rattle.bz_token.specs.Faults.{fault_at, IsFirstFault}
+use Rattle.bz_token.specs.private.BadPlaces.{IsOpenText, IsBadNumber, IsBadCharacter}
+use Rattle.bz_token.specs.UpToFault.{IsReadAs}
 use Rattle.bz_token.specs.FreshStart.{ends_in_line}
 use Rattle.bz_token.proofs.Classes.{can_start, digit_class}
 use Rattle.bz_token.proofs.CutMachine.{next_inside, run_append}
 use Rattle.bz_token.proofs.Ends.{string_opens}
 use Rattle.bz_token.proofs.Openings.{no_opening, none_some}
+use Rattle.bz_token.proofs.BadPlaces.{Sort, open_text, bad_number, bad_backslash, bad_bracket, too_deep, bad_character, IsBadAt, bad_says}
+use Rattle.bz_token.proofs.SomeReading.{bad_here}
+use Rattle.bz_token.proofs.Unique.{IsStuck, place_stuck}
 use Rattle.bz_token.proofs.Progress.{reading_bytes, open_lengths}
 use Rattle.bz_token.proofs.Joins.{token_more, any_right, line_text}
 use Rattle.bz_token.proofs.Agree.{Ready, ready_plain, ready_first, gap_run, token_run, reading_run, stands}
@@ -72,34 +75,11 @@ reading_more depth opened (p ∷ ps) rest bytes r reading h =
       reading_more depth (open_after_token opened p.text) ps rest after r reading.2 h,
     )
 
--- a fault at a place before a newline stays the first, after the same pieces, whatever follows
-fault_more : (first depth : ℕ) (c r : List ℕ) (IsBad : List ℕ → List ℕ → Type 0) (line col : ℕ) (f : IsFaultAt first depth c IsBad line col) → has_newline f.place ≡ true → IsBad (open_after [] f.pieces) (f.place ++ r) → (g : IsFaultAt first depth (c ++ r) IsBad line col) × (g.pieces ≡ f.pieces)
-fault_more first depth c r IsBad line col f h bad = (
-  record {
-    pieces = f.pieces;
-    gap = f.gap;
-    place = f.place ++ r;
-    reading = subst (λ x. IsReading depth [] f.pieces x (c ++ r)) (append_assoc f.gap f.place r) (reading_more depth [] f.pieces (f.gap ++ f.place) c r f.reading (any_right is_newline f.gap f.place h));
-    is_gap = f.is_gap;
-    after_gap = begins_is (is_inside (open_after [] f.pieces)) (f.place ++ r) ∙ ap₂ (λ x y. x || y) (begins_more (is_white (is_inside (open_after [] f.pieces))) f.place r h) (continues_more f.place r h) ∙ sym (begins_is (is_inside (open_after [] f.pieces)) f.place) ∙ f.after_gap;
-    bad = bad;
-    line_is = f.line_is;
-    col_is = f.col_is;
-  },
-  refl,
-)
-
-begun : (p : ℕ → Bool) (place : List ℕ) → begins p place ≡ true → 0 < length place
-begun p [] h = absurd (false≢true h)
-begun p (b ∷ bs) h = omega arith
-
 -- the newline after a fault's place
-place_newline : (first depth : ℕ) (c : List ℕ) (IsBad : List ℕ → List ℕ → Type 0) (line col : ℕ) (f : IsFaultAt first depth c IsBad line col) → ends_in_newline c ≡ true → 0 < length f.place → has_newline f.place ≡ true
-place_newline first depth c IsBad line col f ends some = there f.place some (ap ends_in_newline (sym (reading_bytes depth [] f.pieces (f.gap ++ f.place) c f.reading ∙ sym (append_assoc (bytes_of f.pieces) f.gap f.place))) ∙ ends)
-  where
-    there : (place : List ℕ) → 0 < length place → ends_in_newline ((bytes_of f.pieces ++ f.gap) ++ place) ≡ true → has_newline place ≡ true
-    there [] some h = absurd (omega arith)
-    there (b ∷ bs) some h = last_newline (bytes_of f.pieces ++ f.gap) b bs h
+place_newline : (first depth : ℕ) (c : List ℕ) (f : LexFault) (is : IsFirstFault first depth c f) → ends_in_newline c ≡ true → (b : ℕ) (bs : List ℕ) → is.place ≡ b ∷ bs → has_newline is.place ≡ true
+place_newline first depth c f is ends b bs same =
+    let whole : c ≡ (bytes_of is.pieces ++ is.gap) ++ is.place = reading_bytes depth [] is.pieces (is.gap ++ is.place) c is.reading ∙ sym (append_assoc (bytes_of is.pieces) is.gap is.place) in
+    ap has_newline same ∙ last_newline (bytes_of is.pieces ++ is.gap) b bs (ap ends_in_newline (sym (whole ∙ ap (λ p. (bytes_of is.pieces ++ is.gap) ++ p) same)) ∙ ends)
 
 none_of : (o : Option Opening) → is_some o ≡ false → o ≡ None
 none_of None h = refl
@@ -154,18 +134,18 @@ ready_after depth opened (p ∷ ps) rest bytes s r ready =
     subst (λ x. Ready x (length (open_after (open_after_token opened p.text) ps)) rest) (sym all) (ready_after depth (open_after_token opened p.text) ps rest after (run (run s p.gap) p.text) r.2 t.ready)
 
 -- a string that no quotes close in a chunk is not closed by what follows
-text_more : (first depth : ℕ) (c r : List ℕ) (line col : ℕ) (f : IsFaultAt first depth c (λ opened. IsOpenText) line col) → is_ended (run start c).inside ≡ true → has_newline f.place ≡ true → IsOpenText (f.place ++ r)
-text_more first depth c r line col f ended h =
+text_more : (first depth : ℕ) (c r : List ℕ) (fault : LexFault) (f : IsFirstFault first depth c fault) → IsOpenText f.place → is_ended (run start c).inside ≡ true → has_newline f.place ≡ true → IsOpenText (f.place ++ r)
+text_more first depth c r fault f bad ended h =
     let opened = open_after [] f.pieces in
     let place = f.place in
     let before = run (run start (bytes_of f.pieces)) f.gap in
     let g = gap_run (is_inside opened) f.gap place (run start (bytes_of f.pieces)) (length opened) (some_open opened) f.is_gap
     (ready_after depth [] f.pieces (f.gap ++ place) c start f.reading (ready_plain start 0 c (stands Plain 0 Blank))) in
     let whole : run start c ≡ run before place = ap (run start) (reading_bytes depth [] f.pieces (f.gap ++ place) c f.reading) ∙ run_append (bytes_of f.pieces) (f.gap ++ place) start ∙ run_append f.gap place (run start (bytes_of f.pieces)) in
-    let o = some_of (opening place) f.bad.quoted in
+    let o = some_of (opening place) bad.quoted in
     record {
-      quoted = ap is_some (opening_same_more place r h) ∙ f.bad.quoted;
-      none = none_more place r h f.bad.none (later o.0 o.1 before (length opened) (at_first place before (length opened) (is_inside opened) g.ready f.after_gap) (ap (λ t. is_ended t.inside) (sym whole) ∙ ended));
+      quoted = ap is_some (opening_same_more place r h) ∙ bad.quoted;
+      none = none_more place r h bad.none (later o.0 o.1 before (length opened) (at_first place before (length opened) (is_inside opened) g.ready f.after_gap) (ap (λ t. is_ended t.inside) (sym whole) ∙ ended));
     }
   where
     at_first : (place : List ℕ) (s : Scan) (d : ℕ) (inside : Bool) → Ready s d place → begins_gap inside place ≡ false → (b : ℕ) (bs : List ℕ) → place ≡ b ∷ bs → (k : LineKind) × (next s b ≡ outside d k b)
@@ -194,42 +174,66 @@ lines_close depth opened p [] rest bytes r line = ap (open_after_token opened) t
 lines_close depth opened p (q ∷ ps) rest bytes r line = lines_close depth (open_after_token opened p.text) q ps rest r.0 r.2 line
 
 -- at the end of a logical line no bracket is left open after tokens
-none_unclosed : (first depth : ℕ) (c : List ℕ) (line col : ℕ) → IsOpenBracket first depth c line col → is_ended (run start c).inside ≡ true → ⊥
-none_unclosed first depth c line col f ended =
-    let end = reading_run depth [] f.pieces f.rest c start f.reading f.is_gap (ready_plain start 0 c (stands Plain 0 Blank)) ended in
-    omega (arith, open_lengths first [] [] [] [] f.pieces refl, ap length f.opened, ap length (closed f.pieces f.reading end.1))
+none_unclosed : (first depth : ℕ) (c : List ℕ) (f : LexFault) (is : IsFirstFault first depth c f) → is.place ≡ [] → is_ended (run start c).inside ≡ true → ⊥
+none_unclosed first depth c f is done ended =
+    let reading : IsReading depth [] is.pieces is.gap c = subst (λ x. IsReading depth [] is.pieces x c) (ap (λ p. is.gap ++ p) done ∙ append-nil is.gap) is.reading in
+    let end = reading_run depth [] is.pieces is.gap c start reading is.is_gap (ready_plain start 0 c (stands Plain 0 Blank)) ended in
+    let opens = open_tokens [] (tokens_of first [] [] is.pieces) in
+    let some = some_open opens (line_at first (bytes_of is.pieces ++ is.gap)) (column_at (bytes_of is.pieces ++ is.gap)) (ap (λ p. fault_at p opens (line_at first (bytes_of is.pieces ++ is.gap)) (column_at (bytes_of is.pieces ++ is.gap))) (sym done) ∙ is.is) in
+    omega (arith, open_lengths first [] [] [] [] is.pieces refl, some, ap length (closed is.pieces is.gap reading end.1))
   where
-    closed : (ps : List Piece) → IsReading depth [] ps f.rest c → ends_in_line ps ≡ true → open_after [] ps ≡ []
-    closed [] r line = refl
-    closed (p ∷ ps) r line = lines_close depth [] p ps f.rest c r line
+    closed : (ps : List Piece) (gap : List ℕ) → IsReading depth [] ps gap c → ends_in_line ps ≡ true → open_after [] ps ≡ []
+    closed [] gap r line = refl
+    closed (p ∷ ps) gap r line = lines_close depth [] p ps gap c r line
+
+    some_open : (opens : List Placed) (line col : ℕ) → fault_at [] opens line col ≡ Some f → 0 < length opens
+    some_open [] line col e = absurd cc
+    some_open (t ∷ opens) line col e = omega arith
+
+-- a bad place at which a text goes on is bad in the same way
+bad_more : (first depth : ℕ) (c r : List ℕ) (f : LexFault) (is : IsFirstFault first depth c f) (sort : Sort) → is_ended (run start c).inside ≡ true → has_newline is.place ≡ true
+    → IsBadAt depth (open_after [] is.pieces) is.place sort → IsBadAt depth (open_after [] is.pieces) (is.place ++ r) sort
+bad_more first depth c r f is open_text ended h bad = text_more first depth c r f is bad ended h
+bad_more first depth c r f is bad_number ended h bad = number_more is.place r h bad
+bad_more first depth c r f is bad_backslash ended h bad = begins_more (λ b. b == 92) is.place r h ∙ bad
+bad_more first depth c r f is bad_bracket ended h bad = begins_more (λ b. is_closing_bracket b && not (closes_innermost (open_after [] is.pieces) b)) is.place r h ∙ bad
+bad_more first depth c r f is too_deep ended h bad = record { bracket = begins_more is_opening_bracket is.place r h ∙ bad.bracket; deep = bad.deep }
+bad_more first depth c r f is bad_character ended h bad = character_more is.place r h bad
+
+-- a bad place before a newline stays the first, after the same pieces, whatever follows
+place_more : (first depth : ℕ) (c r : List ℕ) (f : LexFault) (is : IsFirstFault first depth c f) (sort : Sort) → is_ended (run start c).inside ≡ true → has_newline is.place ≡ true
+    → IsBadAt depth (open_after [] is.pieces) is.place sort → (more : IsFirstFault first depth (c ++ r) f) × (more.pieces ≡ is.pieces)
+place_more first depth c r f is sort ended h bad =
+    let opened = open_after [] is.pieces in
+    let inside = is_inside opened in
+    let opens = open_tokens [] (tokens_of first [] [] is.pieces) in
+    let line = line_at first (bytes_of is.pieces ++ is.gap) in
+    let col = column_at (bytes_of is.pieces ++ is.gap) in
+    let after : begins_gap inside (is.place ++ r) ≡ false = begins_is inside (is.place ++ r) ∙ ap₂ (λ x y. x || y) (begins_more (is_white inside) is.place r h) (continues_more is.place r h) ∙ sym (begins_is inside is.place) ∙ is.after_gap in
+    let says = bad_says depth opened (is.place ++ r) sort (bad_more first depth c r f is sort ended h bad) in (
+      record {
+        pieces = is.pieces;
+        gap = is.gap;
+        place = is.place ++ r;
+        reading = subst (λ x. IsReading depth [] is.pieces x (c ++ r)) (append_assoc is.gap is.place r) (reading_more depth [] is.pieces (is.gap ++ is.place) c r is.reading (any_right is_newline is.gap is.place h));
+        stuck = place_stuck depth opened is.gap (is.place ++ r) is.is_gap after says.never;
+        is_gap = is.is_gap;
+        after_gap = after;
+        is = says.told_is opens line col ∙ sym ((bad_says depth opened is.place sort bad).told_is opens line col) ∙ is.is;
+      },
+      refl,
+    )
 
 -- the first fault of logical lines is that of a text that begins with them, after the same pieces
-fault_at_front : (first depth : ℕ) (c r : List ℕ) (f : LexFault) → is_ended (run start c).inside ≡ true → ends_in_newline c ≡ true → (is : IsFault first depth c f) → (more : IsFault first depth (c ++ r) f) × (read_before first depth (c ++ r) f more ≡ read_before first depth c f is)
-fault_at_front first depth c r (faults.OutOfMemory _) ended ends is = (is, refl)
-fault_at_front first depth c r (faults.BadCharacter line col) ended ends is =
-    let h = place_newline first depth c (λ opened. IsBadCharacter) line col is ends is.bad.some in
-    fault_more first depth c r (λ opened. IsBadCharacter) line col is h (character_more is.place r h is.bad)
-fault_at_front first depth c r (faults.BadNumber line col) ended ends is =
-    let h = place_newline first depth c (λ opened. IsBadNumber) line col is ends (begun is_ascii_digit is.place is.bad.digit) in
-    fault_more first depth c r (λ opened. IsBadNumber) line col is h (number_more is.place r h is.bad)
-fault_at_front first depth c r (faults.OpenText line col) ended ends is =
-    let h = place_newline first depth c (λ opened. IsOpenText) line col is ends (quoted is.place is.bad.quoted) in
-    fault_more first depth c r (λ opened. IsOpenText) line col is h (text_more first depth c r line col is ended h)
+fault_at_front : (first depth : ℕ) (c r : List ℕ) (f : LexFault) → is_ended (run start c).inside ≡ true → ends_in_newline c ≡ true → (is : IsFirstFault first depth c f) → (more : IsFirstFault first depth (c ++ r) f) × (more.pieces ≡ is.pieces)
+fault_at_front first depth c r f ended ends is = by_place is.place refl
   where
-    quoted : (place : List ℕ) → is_some (opening place) ≡ true → 0 < length place
-    quoted [] h = absurd (false≢true h)
-    quoted (b ∷ bs) h = omega arith
-fault_at_front first depth c r (faults.BadBracket line col) ended ends is =
-    let test : ℕ → Bool = λ b. is_closing_bracket b && not (closes_innermost (open_after [] is.pieces) b) in
-    let h = place_newline first depth c IsBadBracket line col is ends (begun test is.place is.bad) in
-    fault_more first depth c r IsBadBracket line col is h (begins_more test is.place r h ∙ is.bad)
-fault_at_front first depth c r (faults.OpenBracket line col) ended ends is = absurd (none_unclosed first depth c line col is ended)
-fault_at_front first depth c r (faults.TooDeep line col) ended ends is =
-    let h = place_newline first depth c (IsTooDeep depth) line col is ends (begun is_opening_bracket is.place is.bad.bracket) in
-    fault_more first depth c r (IsTooDeep depth) line col is h (record { bracket = begins_more is_opening_bracket is.place r h ∙ is.bad.bracket; deep = is.bad.deep })
-fault_at_front first depth c r (faults.BadBackslash line col) ended ends is =
-    let h = place_newline first depth c (λ opened. IsBadBackslash) line col is ends (begun (λ b. b == 92) is.place is.bad) in
-    fault_more first depth c r (λ opened. IsBadBackslash) line col is h (begins_more (λ b. b == 92) is.place r h ∙ is.bad)
+    by_place : (place : List ℕ) → is.place ≡ place → (more : IsFirstFault first depth (c ++ r) f) × (more.pieces ≡ is.pieces)
+    by_place [] same = absurd (none_unclosed first depth c f is same ended)
+    by_place (b ∷ bs) same =
+        let opened = open_after [] is.pieces in
+        let bad = bad_here depth opened is.gap b bs is.is_gap (ap (begins_gap (is_inside opened)) (sym same) ∙ is.after_gap) (subst (λ p. IsStuck depth opened (is.gap ++ p)) same is.stuck) in
+        place_more first depth c r f is bad.0 ended (place_newline first depth c f is ends b bs same) (subst (λ p. IsBadAt depth opened p bad.0) (sym same) bad.1)
 
 -- what a chunk is read as that has a fault is what the chunk and what follows it are read as
 pub chunk_read : (first depth : ℕ) (c rest : List ℕ) (us : List Placed) (f : LexFault) → EndsBefore c rest → 0 < length c → IsReadAs first depth c us (Some f) → IsReadAs first depth (c ++ rest) us (Some f)
@@ -237,8 +241,8 @@ chunk_read first depth c [] us f cut some r = subst (λ x. IsReadAs first depth 
 chunk_read first depth [] (b ∷ rest) us f cut some r = absurd (omega arith)
 chunk_read first depth (x ∷ xs) (b ∷ rest) us f cut some r =
     let ended = chunk_ends_line (x ∷ xs) b rest cut some in
-    let more = fault_at_front first depth (x ∷ xs) (b ∷ rest) f ended (ended_newline x xs start ended) r.1 in
-    (r.0, more.0, r.2 ∙ ap (tokens_of first [] []) (sym more.1))
+    let more = fault_at_front first depth (x ∷ xs) (b ∷ rest) f ended (ended_newline x xs start ended) r.0 in
+    (more.0, r.1 ∙ ap (tokens_of first [] []) (sym more.1))
 
 -- a chunk that something follows ends with a newline
 pub chunk_newline : (c : List ℕ) (b : ℕ) (rest : List ℕ) → EndsBefore c (b ∷ rest) → 0 < length c → ends_in_newline c ≡ true

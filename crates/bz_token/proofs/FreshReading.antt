@@ -1,38 +1,26 @@
 -- What stands after lines is read as a text of its own.
-use Rattle.bz_memory.specs.NoMemory.{no_memory}
 use Rattle.std.proofs.Common.{◌≡◌, ℕ, List, [], ◌∷◌, ◌++◌, refl, sym, ap, ap₂, subst, ◌∙◌, arith, inl, inr}
 use Rattle.std.specs.Prelude.{Option, Some, None}
 use Rattle.std.specs.List.{concat}
 use Rattle.bz_token.specs.declared.fault.LexFault.{LexFault}
-use Rattle.bz_token.specs.declared.fault.LexFault.TheVariants.{OutOfMemory}
 use Rattle.bz_token.specs.Places.{Placed, line_at}
-use Rattle.bz_token.specs.Reading.{IsReading, open_after}
-use Rattle.bz_token.specs.Faults.{IsFault}
+use Rattle.bz_token.specs.Reading.{tokens_of}
+use Rattle.bz_token.specs.Faults.{IsFirstFault}
 use Rattle.bz_token.specs.Chunks.{chunks}
-use Rattle.bz_token.specs.UpToFault.{read_before, IsReadAs}
+use Rattle.bz_token.specs.UpToFault.{IsReadAs}
 use Rattle.bz_token.specs.FreshStart.{AreLinesOf, AreTokensOfChunks}
 use Rattle.bz_token.proofs.Progress.{newlines-append}
-use Rattle.bz_token.proofs.Unique.{IsStuck}
-use Rattle.bz_token.proofs.Joins.{join_reading, open_after-append, joined_tokens, tokens_after_lines}
+use Rattle.bz_token.proofs.Joins.{joined_tokens, tokens_after_lines}
 use Rattle.bz_token.proofs.FaultJoins.{fault_after_lines}
 use Rattle.bz_token.proofs.FreshChunks.{lines_of_chunks}
 use Rattle.bz_token.proofs.SomeReading.{some_reading}
-use Rattle.bz_token.proofs.OneReading.{StopsAfter, read_stops, tokens_before, one_way, tokens_or_fault}
+use Rattle.bz_token.proofs.OneReading.{one_way, tokens_or_fault}
 
 pub read_after_lines : (first depth : ℕ) (a b : List ℕ) (ts us : List Placed) (fault : Option LexFault) → AreLinesOf first depth a ts → IsReadAs (line_at first a) depth b us fault → IsReadAs first depth (a ++ b) (ts ++ us) fault
 read_after_lines first depth a b ts us None x y = tokens_after_lines first depth a b ts us x y
 read_after_lines first depth a b ts us (Some f) x y =
-    let ps = x.0 in
-    let qs = read_before (line_at first a) depth b f y.1 in
-    let stops = read_stops (line_at first a) depth b f y.1 y.0 in
-    let opens : open_after [] qs ≡ open_after [] (ps ++ qs) = sym (open_after-append [] ps qs ∙ ap (λ o. open_after o qs) x.2) in
-    let joined : StopsAfter depth (a ++ b) (ps ++ qs) = (
-      stops.0,
-      join_reading depth [] ps qs a b stops.0 x.1 x.3 (subst (λ o. IsReading depth o qs stops.0 b) (sym x.2) stops.1),
-      subst (λ o. IsStuck depth o stops.0) opens stops.2,
-    ) in
-    let is = fault_after_lines first depth a b ts f x y.1 in
-    (y.0, is, ap₂ (λ s t. s ++ t) x.4 y.2 ∙ sym (joined_tokens first depth ps qs a x.1 x.3) ∙ tokens_before first depth (a ++ b) f is y.0 (ps ++ qs) joined)
+    let is = fault_after_lines first depth a b ts f x y.0 in
+    (is.0, ap₂ (λ s t. s ++ t) x.4 y.1 ∙ sym (joined_tokens first depth x.0 y.0.pieces a x.1 x.3) ∙ ap (tokens_of first [] []) (sym is.1))
 
 pub read_split : (first depth : ℕ) (a b : List ℕ) (ts vs : List Placed) (fault : Option LexFault) → AreLinesOf first depth a ts → IsReadAs first depth (a ++ b) vs fault → (us : List Placed) × IsReadAs (line_at first a) depth b us fault × (vs ≡ ts ++ us)
 read_split first depth a b ts vs fault x whole =
@@ -54,12 +42,12 @@ rest_split first depth cs ds d bytes rest ts vs fault e t whole r =
     read_split first depth (concat cs) rest ts vs fault l.3 (subst (λ x. IsReadAs first depth x vs fault) whole r)
 
 -- where no chunk has a fault, all have tokens
-pub chunks_without_fault : (first depth : ℕ) (cs : List (List ℕ)) → ((before after : List (List ℕ)) (c : List ℕ) (f : LexFault) → cs ≡ before ++ c ∷ after → IsFault (line_at first (concat before)) depth c f → f ≡ OutOfMemory no_memory) → (ts : List Placed) × AreTokensOfChunks first depth cs ts
+pub chunks_without_fault : (first depth : ℕ) (cs : List (List ℕ)) → ((before after : List (List ℕ)) (c : List ℕ) (f : LexFault) → cs ≡ before ++ c ∷ after → IsFirstFault (line_at first (concat before)) depth c f → ⊥) → (ts : List Placed) × AreTokensOfChunks first depth cs ts
 chunks_without_fault first depth [] none = ([], refl)
 chunks_without_fault first depth (c ∷ cs) none = elim (tokens_or_fault first depth c) [
-  | inr f ↦ absurd (f.1 (none [] cs c f.0 refl (subst (λ line. IsFault line depth c f.0) (no_line first) f.2)))
+  | inr f ↦ absurd (none [] cs c f.0 refl (subst (λ line. IsFirstFault line depth c f.0) (no_line first) f.1))
   | inl ts ↦
-      let more = chunks_without_fault (line_at first c) depth cs (λ before after d f e is. none (c ∷ before) after d f (ap (λ ds. c ∷ ds) e) (subst (λ line. IsFault line depth d f) (lines c (concat before)) is)) in
+      let more = chunks_without_fault (line_at first c) depth cs (λ before after d f e is. none (c ∷ before) after d f (ap (λ ds. c ∷ ds) e) (subst (λ line. IsFirstFault line depth d f) (lines c (concat before)) is)) in
       (ts.0 ++ more.0, (ts.0, more.0, ts.1, more.1, refl))
 ]
   where

@@ -39,7 +39,7 @@ alone first depth d r us fault whole is same = record {
 
 chunk_first : (first depth : ℕ) (d r : List ℕ) (us : List Placed) (fault : Option LexFault) → EndsBefore d r → 0 < length d → IsReadAs first depth d us fault → ReadOn first depth d r us fault
 chunk_first first depth d r us (Some f) cut some is =
-    let here = fault_line first depth d f is.0 is.1 in
+    let here = fault_line first depth d f is.0 in
     alone first depth d r us (Some f) (chunk_read first depth d r us f cut some is) is (rw here refl)
 chunk_first first depth d [] us None cut some is = alone first depth d [] us None (subst (λ x. IsReadAs first depth x us None) (sym (append-nil d)) is) is refl
 chunk_first first depth d (b ∷ bs) us None cut some is =
@@ -62,7 +62,7 @@ chunk_first first depth d (b ∷ bs) us None cut some is =
     later : (told : Option LexFault) → IsReadAs (line_at first d) depth (b ∷ bs) (some_reading (line_at first d) depth (b ∷ bs)).0 told → ends_in_newline d ≡ true → fault_on_lines first d told ≡ None
     later None is newline = refl
     later (Some g) is newline =
-        let elsewhere = line_after first (line_of g) d (b ∷ bs) newline (fault_line (line_at first d) depth (b ∷ bs) g is.0 is.1) in
+        let elsewhere = line_after first (line_of g) d (b ∷ bs) newline (fault_line (line_at first d) depth (b ∷ bs) g is.0) in
         rw elsewhere refl
 
 -- the same of a file, after chunks with tokens

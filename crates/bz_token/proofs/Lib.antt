@@ -24,6 +24,7 @@ pub mod Steps
 pub mod Innermost
 pub mod Fitting
 pub mod Unique
+pub mod BadPlaces
 pub mod OneFault
 pub mod SomeToken
 pub mod SomeReading

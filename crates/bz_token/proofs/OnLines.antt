@@ -1,5 +1,4 @@
 -- On which lines tokens and faults stand.
-use Rattle.bz_memory.specs.NoMemory.{no_memory}
 use Rattle.std.proofs.Common.{◌≡◌, ℕ, ◌<◌, ◌≤◌, List, [], ◌∷◌, ◌++◌, length, drop, Bool, true, false, refl, sym, ap, subst, ◌∙◌, arith, inl, inr, append_assoc, append-nil}
 use Rattle.std.specs.Prelude.{Option, Some, None, nat_le, nat_lt}
 use Rattle.std.specs.List.{list_all, filter}
@@ -9,18 +8,19 @@ use Rattle.bz_token.specs.declared.fault.LexFault.{LexFault}
 use Rattle.bz_token.specs.declared.fault.LexFault.TheVariants as faults
 use Rattle.bz_token.specs.declared.token.Kind.{Kind}
 use Rattle.bz_token.specs.Cuts.{ends_in_newline}
-use Rattle.bz_token.specs.Places.{Placed, line_at}
+use Rattle.bz_token.specs.Places.{Placed, line_at, column_at}
 use Rattle.bz_token.specs.Lexical.{is_text}
-use Rattle.bz_token.specs.Brackets.{is_opening_bracket, is_closing_bracket, open_after_token, open_tokens}
-use Rattle.bz_token.specs.Reading.{Piece, IsReading, open_after, bytes_of, tokens_of}
-use Rattle.bz_token.specs.Faults.{IsFaultAt, IsFault}
-use Rattle.bz_token.specs.UpToFault.{read_before, IsReadAs}
+use Rattle.bz_token.specs.Brackets.{is_inside, is_opening_bracket, is_closing_bracket, open_after_token, open_tokens}
+use Rattle.bz_token.specs.Reading.{is_gap, begins_gap, Piece, IsReading, open_after, bytes_of, tokens_of}
+use Rattle.bz_token.specs.Faults.{fault_at, IsFirstFault}
+use Rattle.bz_token.specs.UpToFault.{IsReadAs}
 use Rattle.bz_token.specs.FreshStart.{ends_in_line, AreLinesOf, line_following, is_line_of, line_of}
 use Rattle.bz_token.proofs.Classes.{empty_no_text}
 use Rattle.bz_token.proofs.Innermost.{step}
 use Rattle.bz_token.proofs.Progress.{newlines, newlines-append, reading_bytes}
-use Rattle.bz_token.proofs.OneFault.{open_text_sort, number_sort, backslash_sort, bracket_sort, deep_sort, character_sort}
-use Rattle.bz_token.proofs.OneReading.{read_stops}
+use Rattle.bz_token.proofs.BadPlaces.{Sort, open_text, bad_number, bad_backslash, bad_bracket, too_deep, bad_character, told, bad_says}
+use Rattle.bz_token.proofs.SomeReading.{bad_here}
+use Rattle.bz_token.proofs.Unique.{IsStuck}
 use Rattle.bz_token.proofs.Joins.{some_newlines, lines_newline}
 use Rattle.bz_token.proofs.ChunkFaults.{last_newline}
 use Rattle.bz_token.specs.Pieces.{is_one}
@@ -57,9 +57,7 @@ pieces_lines first depth d opened before lines (p ∷ ps) rest bytes whole r =
 
 pub read_lines : (first depth : ℕ) (d : List ℕ) (us : List Placed) (fault : Option LexFault) → IsReadAs first depth d us fault → list_all (λ t. is_line_of first d t.line) us ≡ true
 read_lines first depth d us None r = subst (λ ts. list_all (λ t. is_line_of first d t.line) ts ≡ true) (sym r.5) (pieces_lines first depth d [] [] [] r.0 r.1 d refl r.2)
-read_lines first depth d us (Some f) r =
-    let stops = read_stops first depth d f r.1 r.0 in
-    subst (λ ts. list_all (λ t. is_line_of first d t.line) ts ≡ true) (sym r.2) (pieces_lines first depth d [] [] [] (read_before first depth d f r.1) stops.0 d refl stops.1)
+read_lines first depth d us (Some f) r = subst (λ ts. list_all (λ t. is_line_of first d t.line) ts ≡ true) (sym r.1) (pieces_lines first depth d [] [] [] r.0.pieces (r.0.gap ++ r.0.place) d refl r.0.reading)
 
 -- the brackets that are open are among the tokens
 open_among : (test : Placed → Bool) (opened ts : List Placed) → list_all test opened ≡ true → list_all test ts ≡ true → list_all test (open_tokens opened ts) ≡ true
@@ -77,25 +75,55 @@ open_among test opened (u ∷ ts) o h =
     stepped false true a b is = rw (a, b) (dropped opened o)
     stepped false false a b is = rw (a, b) o
 
-fault_at_line : (first depth : ℕ) (d : List ℕ) (IsBad : List ℕ → List ℕ → Type 0) (line col : ℕ) (f : IsFaultAt first depth d IsBad line col) → 0 < length f.place → is_line_of first d line ≡ true
-fault_at_line first depth d IsBad line col f some =
-    let whole : d ≡ (bytes_of f.pieces ++ f.gap) ++ f.place = reading_bytes depth [] f.pieces (f.gap ++ f.place) d f.reading ∙ sym (append_assoc (bytes_of f.pieces) f.gap f.place) in
-    ap (is_line_of first d) f.line_is ∙ place_line first d (bytes_of f.pieces ++ f.gap) f.place whole some
+same_some : (f g : LexFault) → Some f ≡ Some g → f ≡ g
+same_some f g e = cc
+
+told_line : (sort : Sort) (line col : ℕ) → line_of (told sort line col) ≡ line
+told_line open_text line col = refl
+told_line bad_number line col = refl
+told_line bad_backslash line col = refl
+told_line bad_bracket line col = refl
+told_line too_deep line col = refl
+told_line bad_character line col = refl
+
+-- the line of an open bracket, and of another fault
+open_line : (test : ℕ → Bool) (opens : List Placed) (line col : ℕ) (f : LexFault) → list_all (λ t. test t.line) opens ≡ true → fault_at [] opens line col ≡ Some f → test (line_of f) ≡ true
+open_line test [] line col f all e = absurd cc
+open_line test (t ∷ opens) line col f all e = ap (λ l. test l) (sym (same e)) ∙ (and_parts (test t.line) (list_all (λ t. test t.line) opens) all).0
+  where
+    same : Some (faults.OpenBracket t.line t.col) ≡ Some f → t.line ≡ line_of f
+    same e = ap line_of (same_some (faults.OpenBracket t.line t.col) f e)
+
+place_told : (depth : ℕ) (opened gap : List ℕ) (b : ℕ) (bs : List ℕ) (opens : List Placed) (line col : ℕ) (f : LexFault) → is_gap (is_inside opened) gap ≡ true → begins_gap (is_inside opened) (b ∷ bs) ≡ false → IsStuck depth opened (gap ++ b ∷ bs) → fault_at (b ∷ bs) opens line col ≡ Some f → line ≡ line_of f
+place_told depth opened gap b bs opens line col f is none stuck e =
+    let bad = bad_here depth opened gap b bs is none stuck in
+    let says = bad_says depth opened (b ∷ bs) bad.0 bad.1 in
+    sym (told_line bad.0 line col) ∙ ap line_of (same_some (told bad.0 line col) f (sym (says.told_is opens line col) ∙ e))
 
 -- and so does its fault
-pub fault_line : (first depth : ℕ) (d : List ℕ) (f : LexFault) → (f ≡ faults.OutOfMemory no_memory → ⊥) → IsFault first depth d f → is_line_of first d (line_of f) ≡ true
-fault_line first depth d (faults.OutOfMemory _) some is = absurd (some refl)
-fault_line first depth d (faults.BadCharacter line col) some is = fault_at_line first depth d _ line col is (character_sort depth (open_after [] is.pieces) is.place is.bad).some
-fault_line first depth d (faults.BadNumber line col) some is = fault_at_line first depth d _ line col is (number_sort depth (open_after [] is.pieces) is.place is.bad).some
-fault_line first depth d (faults.OpenText line col) some is = fault_at_line first depth d _ line col is (open_text_sort depth (open_after [] is.pieces) is.place is.bad).some
-fault_line first depth d (faults.BadBracket line col) some is = fault_at_line first depth d _ line col is (bracket_sort depth (open_after [] is.pieces) is.place is.bad).some
-fault_line first depth d (faults.OpenBracket line col) some is =
-    let test : Placed → Bool = λ t. is_line_of first d t.line in
-    let all = open_among test [] (tokens_of first [] [] is.pieces) refl (pieces_lines first depth d [] [] [] is.pieces is.rest d refl is.reading) in
-    let found = subst (λ ts. list_all test ts ≡ true) is.opened all in
-    ap (is_line_of first d) is.line_is ∙ (and_parts (test is.bracket) (list_all test is.outer) found).0
-fault_line first depth d (faults.TooDeep line col) some is = fault_at_line first depth d _ line col is (deep_sort depth (open_after [] is.pieces) is.place is.bad).some
-fault_line first depth d (faults.BadBackslash line col) some is = fault_at_line first depth d _ line col is (backslash_sort depth (open_after [] is.pieces) is.place is.bad).some
+pub fault_line : (first depth : ℕ) (d : List ℕ) (f : LexFault) → IsFirstFault first depth d f → is_line_of first d (line_of f) ≡ true
+fault_line first depth d f is = by_place is.place refl
+  where
+    whole : d ≡ (bytes_of is.pieces ++ is.gap) ++ is.place
+    whole = reading_bytes depth [] is.pieces (is.gap ++ is.place) d is.reading ∙ sym (append_assoc (bytes_of is.pieces) is.gap is.place)
+
+    line : ℕ
+    line = line_at first (bytes_of is.pieces ++ is.gap)
+
+    col : ℕ
+    col = column_at (bytes_of is.pieces ++ is.gap)
+
+    opens : List Placed
+    opens = open_tokens [] (tokens_of first [] [] is.pieces)
+
+    by_place : (place : List ℕ) → is.place ≡ place → is_line_of first d (line_of f) ≡ true
+    by_place [] same =
+        let all = open_among (λ t. is_line_of first d t.line) [] (tokens_of first [] [] is.pieces) refl (pieces_lines first depth d [] [] [] is.pieces (is.gap ++ is.place) d refl is.reading) in
+        open_line (is_line_of first d) opens line col f all (ap (λ p. fault_at p opens line col) (sym same) ∙ is.is)
+    by_place (b ∷ bs) same =
+        let opened = open_after [] is.pieces in
+        let told_is = place_told depth opened is.gap b bs opens line col f is.is_gap (ap (begins_gap (is_inside opened)) (sym same) ∙ is.after_gap) (subst (λ p. IsStuck depth opened (is.gap ++ p)) same is.stuck) (ap (λ p. fault_at p opens line col) (sym same) ∙ is.is) in
+        ap (is_line_of first d) (sym told_is) ∙ place_line first d (bytes_of is.pieces ++ is.gap) is.place whole (omega (arith, ap length same))
 
 -- tokens of lines stand before the line after them
 tokens_before_line : (first depth : ℕ) (opened before lines : List ℕ) (ps : List Piece) (bytes : List ℕ) (bound : ℕ) → IsReading depth opened ps [] bytes → ends_in_line ps ≡ true → bound ≡ line_at first (before ++ bytes_of ps) → list_all (λ t. nat_lt t.line bound) (tokens_of first before lines ps) ≡ true

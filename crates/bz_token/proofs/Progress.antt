@@ -19,12 +19,14 @@ use Rattle.bz_token.specs.declared.scan_token.Bad.{Bad}
 use Rattle.bz_token.specs.declared.scan_token.Bad.TheVariants.{Character, Number, OpenText, Backslash}
 use Rattle.bz_token.specs.declared.brackets.Misfit.{Misfit}
 use Rattle.bz_token.specs.declared.brackets.Misfit.TheVariants.{TooDeep, NoMatch}
-use Rattle.bz_token.specs.Faults.{IsFault, IsFaultAt, IsOpenBracket, IsBadCharacter, IsBadNumber, IsOpenText, IsBadBackslash, IsBadBracket, IsTooDeep}
+use Rattle.bz_token.specs.Faults.{fault_at, IsFirstFault, IsFault}
 use Rattle.bz_token.specs.private.Scans.{IsBadPlace, bad_fault, IsMisfit, misfit_fault, IsLeftOpen}
 use Rattle.bz_token.specs.private.Steps.{IsRefused}
 pub use Rattle.bz_token.specs.private.Progress.{lines_of, Descends, newest, Progress, Grows}
 use Rattle.bz_token.proofs.Innermost.{step}
 use Rattle.bz_token.proofs.Scanning.{boundary_after}
+use Rattle.bz_token.proofs.Unique.{gap_stuck}
+use Rattle.bz_token.proofs.BadPlaces.{Sort, open_text, bad_number, bad_backslash, bad_bracket, too_deep, bad_character, told, IsBadAt, bad_fault_at}
 use Rattle.bz_token.specs.Common.{begins}
 use Rattle.bz_token.specs.Pieces.{is_blank}
 
@@ -273,19 +275,11 @@ token_read first depth bytes tokens opened opened' last rest text following kind
 )
 
 -- a fault after a gap
-unfoldable pub fault_at : (first depth : ℕ) (bytes : List ℕ) (tokens : List Placed) (opened : List ℕ) (last : Option ℕ) (gap after : List ℕ) (line col : ℕ) (IsBad : List ℕ → List ℕ → Type 0) → AfterGap first depth bytes tokens opened last gap after line col → IsBad opened after
-    → IsFaultAt first depth bytes IsBad line col
-fault_at first depth bytes tokens opened last gap after line col IsBad b bad = record {
-  pieces = b.pieces;
-  gap = gap;
-  place = after;
-  reading = b.reading;
-  is_gap = b.is_gap;
-  after_gap = b.after_gap;
-  bad = subst (λ o. IsBad o after) b.opened_are bad;
-  line_is = b.line_is;
-  col_is = b.col_is;
-}
+unfoldable pub fault_after : (first depth : ℕ) (bytes : List ℕ) (tokens : List Placed) (opened : List ℕ) (last : Option ℕ) (gap after : List ℕ) (line col : ℕ) (sort : Sort) → AfterGap first depth bytes tokens opened last gap after line col → IsBadAt depth opened after sort
+    → IsFirstFault first depth bytes (told sort line col)
+fault_after first depth bytes tokens opened last gap after line col sort b bad =
+    subst (IsFirstFault first depth bytes) (sym (ap₂ (told sort) b.line_is b.col_is))
+    (bad_fault_at first depth bytes b.pieces gap after sort b.reading b.is_gap b.after_gap (subst (λ o. IsBadAt depth o after sort) b.opened_are bad))
 
 -- as many tokens as bytes of open brackets
 pub open_lengths : (first : ℕ) (before lines : List ℕ) (opened : List Placed) (brackets : List ℕ) (ps : List Piece) → length opened ≡ length brackets → length (open_tokens opened (tokens_of first before lines ps)) ≡ length (open_after brackets ps)
@@ -377,17 +371,17 @@ both x y p q = rw (p, q) refl
 -- the faults that end a reading
 unfoldable pub bad_at : (first depth : ℕ) (bytes : List ℕ) (tokens : List Placed) (opened : List ℕ) (last : Option ℕ) (gap after : List ℕ) (line col : ℕ) (bad : Bad) → AfterGap first depth bytes tokens opened last gap after line col → IsBadPlace after bad
     → IsFault first depth bytes (bad_fault bad line col)
-bad_at first depth bytes tokens opened last gap after line col Character b is = fault_at first depth bytes tokens opened last gap after line col (λ opened. IsBadCharacter) b is
-bad_at first depth bytes tokens opened last gap after line col Number b is = fault_at first depth bytes tokens opened last gap after line col (λ opened. IsBadNumber) b is
-bad_at first depth bytes tokens opened last gap after line col OpenText b is = fault_at first depth bytes tokens opened last gap after line col (λ opened. IsOpenText) b is
-bad_at first depth bytes tokens opened last gap after line col Backslash b is = fault_at first depth bytes tokens opened last gap after line col (λ opened. IsBadBackslash) b is
+bad_at first depth bytes tokens opened last gap after line col Character b is = fault_after first depth bytes tokens opened last gap after line col bad_character b is
+bad_at first depth bytes tokens opened last gap after line col Number b is = fault_after first depth bytes tokens opened last gap after line col bad_number b is
+bad_at first depth bytes tokens opened last gap after line col OpenText b is = fault_after first depth bytes tokens opened last gap after line col open_text b is
+bad_at first depth bytes tokens opened last gap after line col Backslash b is = fault_after first depth bytes tokens opened last gap after line col bad_backslash b is
 
 unfoldable pub misfit_at : (first depth : ℕ) (bytes : List ℕ) (tokens : List Placed) (opened : List ℕ) (last : Option ℕ) (gap after : List ℕ) (line col : ℕ) (misfit : Misfit) → AfterGap first depth bytes tokens opened last gap after line col → 0 < length after → IsMisfit depth opened (get_or after 0 0) misfit
     → IsFault first depth bytes (misfit_fault misfit line col)
 misfit_at first depth bytes tokens opened last gap after line col TooDeep b some is =
-    fault_at first depth bytes tokens opened last gap after line col (IsTooDeep depth) b (record { bracket = begins_at is_opening_bracket after some is.0; deep = is.1 })
+    fault_after first depth bytes tokens opened last gap after line col too_deep b (record { bracket = begins_at is_opening_bracket after some is.0; deep = is.1 })
 misfit_at first depth bytes tokens opened last gap after line col NoMatch b some is =
-    fault_at first depth bytes tokens opened last gap after line col IsBadBracket b (begins_at (λ x. is_closing_bracket x && not (closes_innermost opened x)) after some (both _ _ is.0 is.1))
+    fault_after first depth bytes tokens opened last gap after line col bad_bracket b (begins_at (λ x. is_closing_bracket x && not (closes_innermost opened x)) after some (both _ _ is.0 is.1))
 
 -- where no token stands, or one whose first byte is a bracket that does not fit
 pub refused_at : (first depth : ℕ) (bytes : List ℕ) (tokens : List Placed) (opened : List ℕ) (last : Option ℕ) (rest here : List ℕ) (line col : ℕ) (fault : LexFault) → Progress first depth bytes tokens opened last rest line col → here ≡ rest → 0 < length here
@@ -404,19 +398,17 @@ refused_at first depth bytes tokens opened last rest here line col fault p same 
 pub left_open : (first depth : ℕ) (bytes : List ℕ) (tokens : List Placed) (opened : List ℕ) (last : Option ℕ) (gap after : List ℕ) (line col : ℕ) (fault : LexFault) → AfterGap first depth bytes tokens opened last gap after line col → after ≡ [] → IsLeftOpen tokens fault
     → IsFault first depth bytes fault
 left_open first depth bytes tokens opened last gap after line col fault b done (t, outer, found, is) =
-    let end : gap ++ after ≡ gap = ap (λ r. gap ++ r) done ∙ append-nil gap in
-    let told : IsOpenBracket first depth bytes t.line t.col = record {
+    let is_first : IsFirstFault first depth bytes (LexFault.OpenBracket t.line t.col) = record {
       pieces = b.pieces;
-      rest = gap;
-      reading = subst (λ x. IsReading depth [] b.pieces x bytes) end b.reading;
+      gap = gap;
+      place = [];
+      reading = subst (λ x. IsReading depth [] b.pieces (gap ++ x) bytes) done b.reading;
+      stuck = gap_stuck depth (open_after [] b.pieces) (gap ++ []) (ap (is_gap (is_inside (open_after [] b.pieces))) (append-nil gap) ∙ b.is_gap);
       is_gap = b.is_gap;
-      bracket = t;
-      outer = outer;
-      opened = ap (open_tokens []) (sym b.tokens_are) ∙ found;
-      line_is = refl;
-      col_is = refl;
+      after_gap = refl;
+      is = ap (λ opens. fault_at [] opens (line_at first (bytes_of b.pieces ++ gap)) (column_at (bytes_of b.pieces ++ gap))) (ap (open_tokens []) (sym b.tokens_are) ∙ found);
     } in
-    rw is told
+    rw is is_first
 
 pub same_as : (o : Option ℕ) (line : ℕ) → option_eq nat_eq o (Some line) ≡ same_line o line
 same_as None line = refl

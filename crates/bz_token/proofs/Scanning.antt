@@ -19,7 +19,7 @@ use Rattle.bz_token.specs.declared.token.Kind.TheVariants.{Identifier, Keyword, 
 use Rattle.bz_token.specs.Strings.{is_quote, opens_after, opening}
 use Rattle.bz_token.specs.Lexical.{is_word_byte, is_newline, is_name, is_number, is_operator_text, is_comment, is_text, IsToken}
 use Rattle.bz_token.specs.private.Closing.{closes, opening_length}
-use Rattle.bz_token.specs.Faults.{IsBadCharacter, IsBadNumber, IsOpenText}
+use Rattle.bz_token.specs.private.BadPlaces.{IsBadCharacter, IsBadNumber, IsOpenText}
 use Rattle.bz_token.specs.Ends.{stops_at}
 use Rattle.bz_token.specs.Lengths.{front_word, word_length}
 use Rattle.bz_token.specs.private.Scans.{IsScanned}

@@ -12,13 +12,14 @@ use Rattle.bz_token.specs.declared.scan_token.Bad.TheVariants as bads
 use Rattle.bz_token.specs.Places.{Placed, line_at, column_at}
 use Rattle.bz_token.specs.Brackets.{is_inside, is_opening_bracket, is_closing_bracket, bracket_fits, open_after_token, open_tokens}
 use Rattle.bz_token.specs.Reading.{is_gap, begins_gap, Piece, IsReading, open_after, bytes_of, tokens_of}
-use Rattle.bz_token.specs.Faults.{IsOpenText, IsBadNumber, IsBadBackslash, IsBadCharacter, IsBadBracket, IsTooDeep, IsFaultAt}
+use Rattle.bz_token.specs.Faults.{fault_at}
 use Rattle.bz_token.specs.private.Scans.{IsScanned, IsBadPlace}
 use Rattle.bz_token.specs.UpToFault.{IsReadAs}
 use Rattle.bz_token.proofs.Classes.{same_bytes}
 use Rattle.bz_token.proofs.Fitting.{token_fits}
 use Rattle.bz_token.proofs.Progress.{open_lengths}
-use Rattle.bz_token.proofs.OneFault.{Sort, open_text, bad_number, bad_backslash, bad_bracket, too_deep, bad_character, told}
+use Rattle.bz_token.proofs.BadPlaces.{Sort, open_text, bad_number, bad_backslash, bad_bracket, too_deep, bad_character, told, IsBadAt, bad_fault_at}
+use Rattle.bz_token.proofs.Unique.{IsStuck, gap_stuck}
 use Rattle.bz_token.proofs.SomeToken.{token_or_bad}
 use Rattle.bz_token.specs.Pieces.{is_white}
 use Rattle.bz_token.specs.private.Gaps.{continues}
@@ -69,15 +70,6 @@ gap_at inside (suc n) (b ∷ bs) fits = elim (cases_Bool (is_white inside b)) [
   ]
 ]
 
--- what is wrong at a place
-abbrev IsBadAt : ℕ → List ℕ → List ℕ → Sort → Type 0
-IsBadAt depth opened place open_text = IsOpenText place
-IsBadAt depth opened place bad_number = IsBadNumber place
-IsBadAt depth opened place bad_backslash = IsBadBackslash place
-IsBadAt depth opened place bad_bracket = IsBadBracket opened place
-IsBadAt depth opened place too_deep = IsTooDeep depth opened place
-IsBadAt depth opened place bad_character = IsBadCharacter place
-
 -- as many gaps and tokens as can be read, and what stands after them
 record Stop (depth : ℕ) (opened bytes : List ℕ) : Type 0 where
   pub pieces : List Piece
@@ -112,6 +104,24 @@ misfit depth opened b bs none = elim (cases_Bool (is_opening_bracket b)) [
 
     both : (x y : Bool) → x ≡ true → y ≡ false → (x && not y) ≡ true
     both x y p q = rw (p, q) refl
+
+-- a place where no piece stands is bad
+pub bad_here : (depth : ℕ) (opened gap : List ℕ) (b : ℕ) (bs : List ℕ) → is_gap (is_inside opened) gap ≡ true → begins_gap (is_inside opened) (b ∷ bs) ≡ false → IsStuck depth opened (gap ++ b ∷ bs) → (sort : Sort) × IsBadAt depth opened (b ∷ bs) sort
+bad_here depth opened gap b bs is none stuck = elim (token_or_bad b bs) [
+  | inr bad ↦ bad_place depth opened (b ∷ bs) bad.0 bad.1
+  | inl s ↦ elim (cases_Bool (bracket_fits depth opened b)) [
+    | inr misfits ↦ misfit depth opened b bs misfits
+    | inl fit ↦ absurd (stands s.0 s.1 fit)
+  ]
+]
+  where
+    stands : (s : Scanned) → IsScanned (b ∷ bs) s → bracket_fits depth opened b ≡ true → ⊥
+    stands s found fit =
+        let text = take s.len (b ∷ bs) in
+        let after = drop s.len (b ∷ bs) in
+        let split : b ∷ bs ≡ text ++ after = sym (take-append-drop s.len (b ∷ bs)) in
+        let fitting = token_fits depth s.kind opened (b ∷ bs) text after s.len found.some found.within refl split found.token.whole none fit in
+        stuck (record { gap = gap; kind = s.kind; text = text }) after (record { bytes_are = ap (λ x. gap ++ x) split; gap = is; token = found.token; fits = fitting.0 })
 
 -- reading goes on after a token
 stop_after : (depth n : ℕ) (opened bytes gap : List ℕ) (b : ℕ) (bs : List ℕ) (s : Scanned) → ((o ys : List ℕ) → length ys ≤ n → Stop depth o ys) → length bytes ≤ suc n → bytes ≡ gap ++ b ∷ bs → is_gap (is_inside opened) gap ≡ true → begins_gap (is_inside opened) (b ∷ bs) ≡ false
@@ -162,29 +172,29 @@ whole_text first depth bytes ps gap reading is [] none =
 whole_text first depth bytes ps gap reading is (t ∷ outer) opened = (
   tokens_of first [] [] ps,
   Some (faults.OpenBracket t.line t.col),
-  ((λ e. cc), record { pieces = ps; rest = gap; reading = reading; is_gap = is; bracket = t; outer = outer; opened = opened; line_is = refl; col_is = refl }, refl),
+  (
+    record {
+      pieces = ps;
+      gap = gap;
+      place = [];
+      reading = subst (λ x. IsReading depth [] ps x bytes) (sym (append-nil gap)) reading;
+      stuck = gap_stuck depth (open_after [] ps) (gap ++ []) (ap (is_gap (is_inside (open_after [] ps))) (append-nil gap) ∙ is);
+      is_gap = is;
+      after_gap = refl;
+      is = ap (λ opens. fault_at [] opens (line_at first (bytes_of ps ++ gap)) (column_at (bytes_of ps ++ gap))) opened;
+    },
+    refl,
+  ),
 )
 
 -- what a text is read as where a place is bad
 up_to_place : (first depth : ℕ) (bytes : List ℕ) (s : Stop depth [] bytes) (sort : Sort) → IsBadAt depth (open_after [] s.pieces) s.place sort → (ts : List Placed) × (fault : Option LexFault) × IsReadAs first depth bytes ts fault
-up_to_place first depth bytes s sort bad = (tokens_of first [] [] s.pieces, Some (told sort line col), by_sort sort bad)
-  where
-    line : ℕ
-    line = line_at first (bytes_of s.pieces ++ s.gap)
-
-    col : ℕ
-    col = column_at (bytes_of s.pieces ++ s.gap)
-
-    here : (IsBad : List ℕ → List ℕ → Type 0) → IsBad (open_after [] s.pieces) s.place → IsFaultAt first depth bytes IsBad (line_at first (bytes_of s.pieces ++ s.gap)) (column_at (bytes_of s.pieces ++ s.gap))
-    here IsBad bad = record { pieces = s.pieces; gap = s.gap; place = s.place; reading = s.reading; is_gap = s.is_gap; after_gap = s.after_gap; bad = bad; line_is = refl; col_is = refl }
-
-    by_sort : (sort : Sort) → IsBadAt depth (open_after [] s.pieces) s.place sort → IsReadAs first depth bytes (tokens_of first [] [] s.pieces) (Some (told sort (line_at first (bytes_of s.pieces ++ s.gap)) (column_at (bytes_of s.pieces ++ s.gap))))
-    by_sort open_text bad = ((λ e. cc), here (λ opened. IsOpenText) bad, refl)
-    by_sort bad_number bad = ((λ e. cc), here (λ opened. IsBadNumber) bad, refl)
-    by_sort bad_backslash bad = ((λ e. cc), here (λ opened. IsBadBackslash) bad, refl)
-    by_sort bad_bracket bad = ((λ e. cc), here IsBadBracket bad, refl)
-    by_sort too_deep bad = ((λ e. cc), here (IsTooDeep depth) bad, refl)
-    by_sort bad_character bad = ((λ e. cc), here (λ opened. IsBadCharacter) bad, refl)
+unfolding bad_fault_at
+up_to_place first depth bytes s sort bad = (
+  tokens_of first [] [] s.pieces,
+  Some (told sort (line_at first (bytes_of s.pieces ++ s.gap)) (column_at (bytes_of s.pieces ++ s.gap))),
+  (bad_fault_at first depth bytes s.pieces s.gap s.place sort s.reading s.is_gap s.after_gap bad, refl),
+)
 
 -- every text has tokens up to its first fault, if it has one
 pub some_reading : (first depth : ℕ) (bytes : List ℕ) → (ts : List Placed) × (fault : Option LexFault) × IsReadAs first depth bytes ts fault

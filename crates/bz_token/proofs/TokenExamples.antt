@@ -1,13 +1,16 @@
 -- The definitions on small texts.
 use Rattle.std.proofs.Common.{◌≡◌, ℕ, List, [], ◌∷◌, true, false, refl}
 use Rattle.std.specs.Prelude.{codes, Some, None}
-use Rattle.bz_token.specs.declared.fault.LexFault.TheVariants.{BadBracket, OpenBracket}
+use Rattle.bz_token.specs.declared.fault.LexFault.TheVariants.{BadCharacter, BadNumber, OpenText, BadBracket, OpenBracket, TooDeep, BadBackslash}
 use Rattle.bz_token.specs.declared.token.Kind.TheVariants.{Identifier, Keyword, Integer, String, Operator, Newline, Comment}
 use Rattle.bz_token.specs.Lexical.{keywords, operators, is_text, counts}
 use Rattle.bz_token.specs.Brackets.{fits}
 use Rattle.bz_token.specs.Reading.{is_gap, begins_gap, Piece, IsReading, bytes_of, tokens_of}
+use Rattle.bz_token.specs.Faults.{fault_at}
 use Rattle.bz_token.specs.UpToFault.{IsReadAs}
 use Rattle.bz_token.specs.FreshStart.{line_following, tokens_on_lines, fault_on_lines}
+use Rattle.bz_token.proofs.BadPlaces.{bad_bracket, bad_says}
+use Rattle.bz_token.proofs.Unique.{IsStuck, gap_stuck, place_stuck}
 use Rattle.bz_token.proofs.Stops.{token_ended}
 
 abbrev newline : List ℕ
@@ -130,8 +133,11 @@ name_read : IsReading 100 [] (name ∷ []) closing (codes "x)")
 unfolding keywords
 name_read = (closing, record { bytes_are = refl; gap = refl; token = token_ended Identifier (codes "x") closing refl refl; fits = refl }, refl)
 
+no_piece : IsStuck 100 [] closing
+no_piece = place_stuck 100 [] [] closing refl refl (bad_says 100 [] closing bad_bracket refl).never
+
 before_bad_bracket : IsReadAs 1 100 (codes "x)") (record { kind = Identifier; text = codes "x"; line = 1; col = 1; fresh = true } ∷ []) (Some (BadBracket 1 2))
-before_bad_bracket = (λ e. cc, record { pieces = name ∷ []; gap = []; place = closing; reading = name_read; is_gap = refl; after_gap = refl; bad = refl; line_is = refl; col_is = refl }, refl)
+before_bad_bracket = (record { pieces = name ∷ []; gap = []; place = closing; reading = name_read; stuck = no_piece; is_gap = refl; after_gap = refl; is = refl }, refl)
 
 -- ` (` and a newline: all tokens stand before the open bracket's fault
 abbrev bracket : Piece
@@ -143,20 +149,40 @@ bracket_read = (newline, record { bytes_are = refl; gap = refl; token = token_en
 
 before_open_bracket : IsReadAs 7 100 (codes " (\n") (record { kind = Operator; text = codes "("; line = 7; col = 2; fresh = true } ∷ []) (Some (OpenBracket 7 2))
 before_open_bracket = (
-  λ e. cc,
   record {
     pieces = bracket ∷ [];
-    rest = newline;
+    gap = newline;
+    place = [];
     reading = bracket_read;
+    stuck = gap_stuck 100 (codes "(") newline refl;
     is_gap = refl;
-    bracket = record { kind = Operator; text = codes "("; line = 7; col = 2; fresh = true };
-    outer = [];
-    opened = refl;
-    line_is = refl;
-    col_is = refl;
+    after_gap = refl;
+    is = refl;
   },
   refl,
 )
+
+-- what is told of a place where no token fits
+open_string : fault_at (codes "r'a\n'") [] 3 5 ≡ Some (OpenText 3 5)
+open_string = refl
+
+no_number : fault_at (codes "0b1") [] 3 5 ≡ Some (BadNumber 3 5)
+no_number = refl
+
+no_continued_line : fault_at (codes "\\ \n") [] 3 5 ≡ Some (BadBackslash 3 5)
+no_continued_line = refl
+
+no_match : fault_at (codes "] ") [] 3 5 ≡ Some (BadBracket 3 5)
+no_match = refl
+
+too_many : fault_at (codes "{}") [] 3 5 ≡ Some (TooDeep 3 5)
+too_many = refl
+
+no_token : fault_at (codes "$x") [] 3 5 ≡ Some (BadCharacter 3 5)
+no_token = refl
+
+no_bracket_open : fault_at [] [] 3 5 ≡ None
+no_bracket_open = refl
 
 -- two lines, the last of which lacks its newline
 last_line : line_following 3 (codes "x\ny") ≡ 5

@@ -9,7 +9,7 @@ use Rattle.bz_token.specs.declared.scan_token.Scanned.{Scanned}
 use Rattle.bz_token.specs.declared.token.Kind.{Kind}
 use Rattle.bz_token.specs.declared.token.Kind.TheVariants.{Identifier, String, Comment}
 use Rattle.bz_token.specs.Lexical.{is_word_byte, is_keyword, is_text, counts, IsToken, HasNoToken}
-use Rattle.bz_token.specs.Faults.{IsOpenText}
+use Rattle.bz_token.specs.private.BadPlaces.{IsOpenText}
 use Rattle.bz_token.specs.private.Scans.{IsScanned}
 use Rattle.bz_token.specs.Lengths.{front_word, word_length, IsTokenOf}
 use Rattle.bz_token.proofs.Openings.{none_some, opening_more}

@@ -3,6 +3,7 @@ pub mod StringPieces
 pub mod Gaps
 pub mod CutSteps
 pub mod Decided
+pub mod BadPlaces
 pub mod Scans
 pub mod Phases
 pub mod Steps

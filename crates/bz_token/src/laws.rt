@@ -1,6 +1,5 @@
 //! Laws on tokens: what a text is read as is determined.
 
-ghost use Rattle.bz_memory.specs.NoMemory.{no_memory};
 ghost use Rattle.std.specs.Prelude.{◌≡◌, ◌↔◌, ◌==◌, ◌∷◌, ◌++◌, ◌<◌, ◌⊎◌, length, [], ℕ, List, Option, Some, None, true, false, codes};
 ghost use Rattle.std.specs.List.{list_any, concat};
 ghost use Rattle.bz_token.specs.Ends.{stops, ends, is_comment_kind};
@@ -12,10 +11,9 @@ ghost use Rattle.bz_token.specs.FreshStart.{AreLinesOf, AreTokensOfChunks, token
 ghost use Rattle.bz_token.specs.Chunks.{chunks};
 ghost use Rattle.bz_token.specs.Cuts.{EndsBefore, IsPart, IsBlock, IsLonger, first_line};
 ghost use Rattle.bz_token.specs.Reading.{AreTokensOf};
-ghost use Rattle.bz_token.specs.Faults.{IsFault};
+ghost use Rattle.bz_token.specs.Faults.{IsFirstFault};
 ghost use Rattle.bz_token.specs.UpToFault.{IsReadAs};
 ghost use Rattle.bz_token.specs.declared.fault.LexFault.{LexFault};
-ghost use Rattle.bz_token.specs.declared.fault.LexFault.TheVariants.{OutOfMemory};
 
 /// A text has at most one list of tokens.
 pub fn one_list_of_tokens()
@@ -23,18 +21,18 @@ pub fn one_list_of_tokens()
         → AreTokensOf first depth bytes us → ts ≡ us }
 {}
 
-/// A text has at most one first fault of its own.
+/// A text has at most one first fault.
 pub fn one_first_fault()
-    ensures { (first depth : ℕ) (bytes : List ℕ) (f g : LexFault) → (f ≡ OutOfMemory no_memory → ⊥) → (g ≡ OutOfMemory no_memory → ⊥)
-        → IsFault first depth bytes f → IsFault first depth bytes g → f ≡ g }
+    ensures { (first depth : ℕ) (bytes : List ℕ) (f g : LexFault) → IsFirstFault first depth bytes f
+        → IsFirstFault first depth bytes g → f ≡ g }
 {}
 
-/// A text has tokens or a first fault of its own, and not both.
+/// A text has tokens or a first fault, and not both.
 pub fn tokens_or_a_fault()
     ensures some { (first depth : ℕ) (bytes : List ℕ) → ((ts : List Placed) × AreTokensOf first depth bytes ts)
-        ⊎ ((f : LexFault) × (f ≡ OutOfMemory no_memory → ⊥) × IsFault first depth bytes f) }
+        ⊎ ((f : LexFault) × IsFirstFault first depth bytes f) }
     ensures not_both { (first depth : ℕ) (bytes : List ℕ) (ts : List Placed) (f : LexFault)
-        → AreTokensOf first depth bytes ts → IsFault first depth bytes f → f ≡ OutOfMemory no_memory }
+        → AreTokensOf first depth bytes ts → IsFirstFault first depth bytes f → ⊥ }
 {}
 
 /// A text is read in one way: as its tokens up to its first fault, and that fault, if it has one.
@@ -45,8 +43,8 @@ pub fn one_reading_up_to_a_fault()
         → IsReadAs first depth bytes ts f → IsReadAs first depth bytes us g → (ts ≡ us) × (f ≡ g) }
     ensures whole { (first depth : ℕ) (bytes : List ℕ) (ts : List Placed)
         → (AreTokensOf first depth bytes ts ↔ IsReadAs first depth bytes ts None) }
-    ensures fault { (first depth : ℕ) (bytes : List ℕ) (f : LexFault) → (f ≡ OutOfMemory no_memory → ⊥)
-        → (IsFault first depth bytes f ↔ ((ts : List Placed) × IsReadAs first depth bytes ts (Some f))) }
+    ensures fault { (first depth : ℕ) (bytes : List ℕ) (f : LexFault)
+        → (IsFirstFault first depth bytes f ↔ ((ts : List Placed) × IsReadAs first depth bytes ts (Some f))) }
 {}
 
 /// What follows a text tells whether it is the token at its place.
@@ -88,7 +86,7 @@ pub fn chunks_start_afresh()
         → 0 < length c → AreTokensOf first depth c ts → AreLinesOf first depth c ts }
     ensures some { (first depth : ℕ) (cs : List (List ℕ))
         → ((before after : List (List ℕ)) (c : List ℕ) (f : LexFault) → cs ≡ before ++ c ∷ after
-        → IsFault (line_at first (concat before)) depth c f → f ≡ OutOfMemory no_memory)
+        → IsFirstFault (line_at first (concat before)) depth c f → ⊥)
         → (ts : List Placed) × AreTokensOfChunks first depth cs ts }
     ensures whole { (first depth : ℕ) (cs : List (List ℕ)) (bytes : List ℕ) (ts : List Placed) → chunks bytes ≡ cs
         → AreTokensOfChunks first depth cs ts → AreTokensOf first depth bytes ts }

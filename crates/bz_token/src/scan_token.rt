@@ -5,7 +5,7 @@ ghost use Rattle.bz_token.specs.declared.token.Kind.TheVariants.{Comment, Intege
 ghost use Rattle.std.specs.Char.{is_ascii_digit};
 ghost use Rattle.bz_token.specs.Lexical.{is_word_byte};
 ghost use Rattle.bz_token.specs.Brackets.{is_opening_bracket, is_closing_bracket};
-ghost use Rattle.bz_token.specs.Faults.{IsOpenText};
+ghost use Rattle.bz_token.specs.private.BadPlaces.{IsOpenText};
 ghost use Rattle.bz_token.specs.Lengths.{word_length};
 ghost use Rattle.bz_token.specs.Reading.{begins_gap};
 ghost use Rattle.bz_token.specs.private.Scans.{IsScanned, IsBadPlace};

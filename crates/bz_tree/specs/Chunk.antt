@@ -1,13 +1,10 @@
 -- The statement of a chunk, or its fault, by the chunk's tokens.
 -- Begin with `IsStatementIn`, `IsBlank` and `IsFaultIn`.
--- Of later stops: 8 `AreTokensOf`, `IsFault`, `Placed`.
-use Rattle.bz_memory.specs.NoMemory.{no_memory}
-use Rattle.std.specs.Prelude.{ℕ, List, Bool, true, false, if◌then◌else◌, ◌≡◌, ◌≢◌, ◌==◌, Option, Some, None, IsSome, IsNone}
-use Rattle.bz_token.specs.declared.fault.LexFault.{LexFault}
-use Rattle.bz_token.specs.declared.fault.LexFault.TheVariants.{OutOfMemory as LexOutOfMemory}
+-- Of later stops: 8 `AreTokensOf`, `IsFirstFault`, `Placed`.
+use Rattle.std.specs.Prelude.{ℕ, List, Bool, true, false, if◌then◌else◌, ◌≡◌, ◌==◌, Option, Some, None, IsSome, IsNone}
 use Rattle.bz_token.specs.Places.{Placed}
 use Rattle.bz_token.specs.Reading.{AreTokensOf}
-use Rattle.bz_token.specs.Faults.{IsFault}
+use Rattle.bz_token.specs.Faults.{IsFirstFault}
 use Rattle.bz_tree.specs.declared.fault.ParseFault.{ParseFault}
 use Rattle.bz_tree.specs.declared.fault.ParseFault.TheVariants.{OutOfMemory, Lex, Indented, NotAStatement}
 use Rattle.bz_tree.specs.Tree.{Statement, items_of}
@@ -54,10 +51,9 @@ pub record IsNoStatement (first : ℕ) (bytes : List ℕ) (tokens : List Placed)
 
 -- the fault of a chunk with these tokens
 abbrev pub IsTokenFault : ℕ → List ℕ → List Placed → ParseFault → Type 0
-IsTokenFault first bytes tokens (OutOfMemory _) = Unit {0}
-IsTokenFault first bytes tokens (Lex fault) = ⊥
 IsTokenFault first bytes tokens (Indented line) = indent_fault tokens ≡ Some line
 IsTokenFault first bytes tokens (NotAStatement line) = IsNoStatement first bytes tokens line
+IsTokenFault first bytes tokens _ = ⊥
 
 -- The statement of a chunk's bytes. Lines count from `first`, and at most `depth` brackets are open at once.
 pub record IsStatementIn (first depth : ℕ) (bytes : List ℕ) (s : Statement) : Type 0 where
@@ -81,5 +77,5 @@ pub record HasTokenFault (first depth : ℕ) (bytes : List ℕ) (fault : ParseFa
 -- nothing of the chunk, so it holds of each; `IsAnswerOf` (bz_engine `File`) leaves it out.
 abbrev pub IsFaultIn : ℕ → ℕ → List ℕ → ParseFault → Type 0
 IsFaultIn first depth bytes (OutOfMemory _) = Unit {0}
-IsFaultIn first depth bytes (Lex fault) = IsFault first depth bytes fault × (fault ≢ LexOutOfMemory no_memory)
+IsFaultIn first depth bytes (Lex fault) = IsFirstFault first depth bytes fault
 IsFaultIn first depth bytes fault = HasTokenFault first depth bytes fault

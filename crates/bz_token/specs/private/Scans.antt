@@ -12,7 +12,7 @@ use Rattle.bz_token.specs.declared.scan_token.Bad.TheVariants.{Character, Number
 use Rattle.bz_token.specs.Lexical.{is_newline, IsToken}
 use Rattle.bz_token.specs.Brackets.{is_opening_bracket, is_closing_bracket, closes_innermost, open_tokens}
 use Rattle.bz_token.specs.Places.{Placed}
-use Rattle.bz_token.specs.Faults.{IsBadCharacter, IsBadNumber, IsOpenText, IsBadBackslash}
+use Rattle.bz_token.specs.private.BadPlaces.{IsBadCharacter, IsBadNumber, IsOpenText, IsBadBackslash}
 
 -- the open brackets, from the innermost outwards
 abbrev pub opened : Brackets → List ℕ

@@ -172,7 +172,7 @@ abbrev pub NoRow : ℕ → ℕ → List ℕ → Type 0
 NoRow first depth text = (tokens : List Placed) → AreTokensOf first depth text tokens → has_row tokens ≡ false
 
 pub faulty : (first depth : ℕ) (text : List ℕ) → HasFault first depth text → NoRow first depth text
-faulty first depth text (fault, lexical, is) tokens are = absurd (no_fault first depth text tokens fault are is lexical)
+faulty first depth text (fault, is) tokens are = absurd (no_fault first depth text tokens fault are is)
 
 stops_at : (first depth : ℕ) (text : List ℕ) (given : List Placed) (reader : TokenReader) → HasGiven first depth text given reader → ((more : List Placed) → row_run row_start (given ++ more) ≡ None) → NoRow first depth text
 stops_at first depth text given reader read none tokens are =

@@ -1,4 +1,4 @@
-use Rattle.bz_token.proofs.OneFault.{no_fault_but_memory}
+use Rattle.bz_token.proofs.OneFault.{no_fault}
 use Rattle.bz_token.proofs.OneReading.{tokens_or_fault}
 use Rattle.bz_token.proofs.laws.tokens_or_a_fault.Goals as goal
 
@@ -6,4 +6,4 @@ pub returns-clause-some : goal.returns-clause-some
 returns-clause-some c = tokens_or_fault
 
 pub returns-clause-not_both : goal.returns-clause-not_both
-returns-clause-not_both c = no_fault_but_memory
+returns-clause-not_both c = no_fault
