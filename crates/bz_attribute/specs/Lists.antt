@@ -18,12 +18,14 @@ same home a b = bytes_eq (completed home a) (completed home b)
 abbrev pub equals : Package → List ℕ → Segment → Bool
 equals home word element = map_or false (λ value. same home value word) (string_value element.nodes)
 
--- a node that may stand in a value that is split: an operand, a plus operator or a dot; no keyword, no other operator
+-- a node that may stand in a value that is split: an operand, a plus operator or a dot; no keyword, no other
+-- operator
 abbrev pub is_joint : Item → Bool
 is_joint (leaf Keyword text) = false
 is_joint (leaf Operator text) = bytes_eq text (codes "+") || bytes_eq text (codes ".")
 is_joint _ = true
 
+-- the operator `+`
 abbrev pub is_plus : Item → Bool
 is_plus x = is_operator_item (codes "+") x
 
@@ -32,8 +34,8 @@ abbrev pub only_list : List Item → Option (List Segment)
 only_list (group ListKind segs one_comma end ∷ []) = Some (segments segs)
 only_list _ = None
 
--- A value is split at each plus operator, if all that stands in it at depth 0 is operands, plus operators and dots. A piece
--- that is one list is a list part.
+-- A value is split at each plus operator, if all that stands in it outside inner brackets is operands, plus
+-- operators and dots. A piece that is one list is a list part.
 abbrev pub pieces : List Item → List (List Item)
 pieces nodes = if list_all is_joint nodes then slice_split is_plus nodes else nodes ∷ []
 

@@ -1,5 +1,5 @@
--- A rule, as `is_rule` says it: its kind is what stands before its call, its attributes are the keyword arguments (buildozer
--- README).
+-- A rule, as `is_rule` says it: its kind is what stands before its call, its attributes are the keyword
+-- arguments (buildozer README).
 -- Begin with `rule_of`.
 use Rattle.std.specs.Prelude.{ℕ, ◌-◌, List, [], ◌∷◌, length, take, Bool, false, if◌then◌else◌, Option, Some, None, codes, drop, bytes_eq, find, option_and_then, flat_map}
 use Rattle.std.specs.List.{last_or}
@@ -40,7 +40,8 @@ only_text _ = None
 abbrev pub string_value : List Item → Option (List ℕ)
 string_value nodes = option_and_then value_of (only_text nodes)
 
--- what stands before the call, and the call
+-- a rule: what stands before its call, the arguments, and of the call what a `group` has: whether it is
+-- `(x,)`, the comments after its last segment
 pub record Rule : Type 0 where
   pub kind : List Item
   pub args : List Segment
@@ -51,7 +52,7 @@ abbrev pub elements : Item → List Segment
 elements (leaf kind text) = []
 elements (group kind segs one_comma end) = segments segs
 
--- the rule with this kind and this call, a `RuleCall` in each rule that was read (`with_rule_call`, stop 7)
+-- the rule with this kind and this call, a `RuleCall` in each rule that was read (`segment_of`, stop 7)
 abbrev pub with_call : List Item → Option Item → Option Rule
 with_call kind (Some (group RuleCall segs one_comma end)) =
     Some (record { kind = kind; args = segments segs; one_comma = one_comma; end = end })

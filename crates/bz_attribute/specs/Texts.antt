@@ -22,4 +22,5 @@ target_text (Line line) = 37 ∷ decimal line
 
 -- a rule by its name, or by its kind; what is no rule is not shown
 abbrev pub shown_text : Package → Statement → List ℕ
-shown_text home s = map_or [] (λ r. home_text home ++ unwrap_or (name_in r.args) (37 ∷ kind_text r.kind)) (rule_of s.nodes)
+shown_text home s =
+    map_or [] (λ r. home_text home ++ unwrap_or (name_in r.args) (37 ∷ kind_text r.kind)) (rule_of s.nodes)

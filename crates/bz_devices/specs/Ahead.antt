@@ -1,5 +1,6 @@
--- The bytes of an input that were read and not yet taken, and the chunk that they begin with (this project's own rule). What
--- a chunk is, stop 8 says: a statement with the comment lines above it, comment lines alone, or a blank line.
+-- The bytes of an input that were read and not yet taken, and the chunk that they begin with (this project's
+-- own rule). What a chunk is, stop 8 says: a statement with the comment lines above it, comment lines alone,
+-- or a blank line.
 -- Begin with `IsUndecided` and `IsTooLong`.
 -- Of later stops: 8 `EndsBefore`, `chunks`.
 use Rattle.std.specs.Prelude.{◌≡◌, ℕ, ◌+◌, ◌*◌, ◌<◌, ◌≤◌, Bool, false, ◌||◌, IsTrue, List, [], ◌∷◌, ◌++◌, length, take, drop, ⊤}
@@ -14,7 +15,8 @@ pub record Ahead : Type 0 where
   pub reads : ℕ
   pub ended : Bool
 
--- Reads gave these pieces, at most 8,192 bytes a read: they stand after the bytes ahead. After the end nothing is read.
+-- Reads gave these pieces, at most 8,192 bytes a read: they stand after the bytes ahead. After the end
+-- nothing is read.
 pub record IsReadOn (max_reads : ℕ) (old new : Ahead) (pieces : List (List ℕ)) : Type 0 where
   pub bytes : new.bytes ≡ old.bytes ++ concat pieces
   pub reads : new.reads ≡ old.reads + length pieces
@@ -29,17 +31,18 @@ pub record IsReadOn (max_reads : ℕ) (old new : Ahead) (pieces : List (List ℕ
 abbrev pub MayFollow : Ahead → List ℕ → Type 0
 MayFollow ahead rest = IsTrue ahead.ended → rest ≡ []
 
--- The first n bytes ahead are the next chunk, whatever follows. It has at most so many bytes, and at most 8,192 are left
--- after it.
+-- The first n bytes ahead are the next chunk, whatever follows. It has at most so many bytes, and at most
+-- 8,192 are left after it.
 pub record IsNextChunk (max_statement : ℕ) (ahead : Ahead) (n : ℕ) : Type 0 where
   pub some : 0 < n
   pub within : n ≤ length ahead.bytes
   pub size : n ≤ max_statement
   pub left : length (drop n ahead.bytes) ≤ 8192
-  pub ends : (rest : List ℕ) → MayFollow ahead rest → EndsBefore (take n ahead.bytes) (drop n ahead.bytes ++ rest)
+  pub ends : (rest : List ℕ) → MayFollow ahead rest
+      → EndsBefore (take n ahead.bytes) (drop n ahead.bytes ++ rest)
 
--- The first chunk of these bytes and the rest begins with a front of the bytes, `seen` of them, that is longer than a chunk
--- may be. `more` is what that chunk has after them, `others` are the chunks after it.
+-- The first chunk of these bytes and the rest begins with a front of the bytes, `seen` of them, that is
+-- longer than a chunk may be. `more` is what that chunk has after them, `others` are the chunks after it.
 pub record BeginsTooLong (max_statement : ℕ) (bytes rest : List ℕ) : Type 0 where
   pub seen : ℕ
   pub within : seen ≤ length bytes
@@ -52,7 +55,8 @@ pub record BeginsTooLong (max_statement : ℕ) (bytes rest : List ℕ) : Type 0 
 abbrev pub IsTooLong : ℕ → Ahead → Type 0
 IsTooLong most ahead = (rest : List ℕ) → MayFollow ahead rest → BeginsTooLong most ahead.bytes rest
 
--- All bytes ahead but 8,192 at most belong to the next chunk: where more stand after the first n, it has more than n.
+-- All bytes ahead but 8,192 at most belong to the next chunk: where more stand after the first n, it has more
+-- than n.
 abbrev pub IsFewAfter : Ahead → Type 0
 IsFewAfter ahead = (n : ℕ) → n + 8192 < length ahead.bytes → IsTooLong n ahead
 
@@ -65,12 +69,14 @@ NoneIsChunk bytes = (n : ℕ) → 0 < n → n ≤ length bytes
 abbrev pub IsUncertain : Ahead → Type 0
 IsUncertain ahead = NoneIsChunk ahead.bytes
 
--- These bytes leave the next chunk open: no front of them is a chunk whatever follows, and it is not sure to be too long.
+-- These bytes leave the next chunk open: no front of them is a chunk whatever follows, and it is not sure to
+-- be too long.
 pub record IsUndecided (max_statement : ℕ) (bytes : List ℕ) : Type 0 where
   pub uncertain : NoneIsChunk bytes
   pub fitting : ((rest : List ℕ) → BeginsTooLong max_statement bytes rest) → ⊥
 
--- Each of these reads was needed, since the bytes before it left the next chunk open, and gave at most 8,192 bytes.
+-- Each of these reads was needed, since the bytes before it left the next chunk open, and gave at most 8,192
+-- bytes.
 abbrev pub AreNeeded : ℕ → List ℕ → List (List ℕ) → Type 0
 AreNeeded max_statement bytes [] = ⊤
 AreNeeded max_statement bytes (piece ∷ pieces) =

@@ -1,5 +1,5 @@
--- Devices: what reads gave, whether they met the end, and counts of bytes and failures (this project's own rule). One piece
--- stands for one read; an empty one is the end of the input.
+-- Devices: what reads gave, whether they met the end, and counts of bytes and failures (this project's own
+-- rule). One piece stands for one read; an empty one is the end of the input.
 -- Begin with `NoneEnds` and `Rises`.
 use Rattle.std.specs.Prelude.{◌≡◌, ℕ, ◌+◌, ◌<◌, ◌≤◌, ◌-◌, ◌^◌, Bool, false, IsTrue, List, [], ◌∷◌, ◌++◌, Option, None, Some, ⊤}
 use Rattle.bz_token.specs.Common.{is_empty, map_or}
@@ -40,7 +40,8 @@ pub record Counted (D : Type 0) : Type 0 where
   pub bytes : ℕ
   pub failures : ℕ
 
--- a reader gave these pieces: the known bytes begin with them, lose them, and are at their end where the reads are
+-- a reader gave these pieces: the known bytes begin with them, lose them, and are at their end where the
+-- reads are
 abbrev pub Gave : Option (List ℕ) → Option (List ℕ) → List (List ℕ) → Type 0
 Gave None new pieces = ⊤
 Gave (Some xs) None pieces = ⊥

@@ -1,4 +1,5 @@
--- The statements of a file: those of its chunks in order, up to the first chunk with a fault (this project's own rule).
+-- The statements of a file: those of its chunks in order, up to the first chunk with a fault (this project's
+-- own rule).
 -- Begin with `IsFile`.
 -- Of later stops: 8 `chunks`, `column_at`, `line_at`.
 use Rattle.bz_memory.specs.NoMemory.{no_memory}
@@ -12,22 +13,28 @@ use Rattle.bz_tree.specs.declared.fault.ParseFault.TheVariants.{OutOfMemory}
 use Rattle.bz_engine.specs.declared.report.SyntaxFault.{SyntaxFault}
 use Rattle.bz_engine.specs.declared.report.SyntaxFault.TheVariants.{NotUtf8, Parse}
 
--- the place of the first byte that belongs to no UTF-8, after n bytes that do
+-- the fault of bytes of which the first n are UTF-8 and no more are: the place of the next one
 abbrev pub not_utf8 : ℕ → ℕ → List ℕ → SyntaxFault
 not_utf8 line n bytes = NotUtf8 (line_at line (take n bytes)) (column_at (take n bytes))
 
--- What a chunk gives, read by itself with its first line: a statement, nothing where it is blank, or its first fault.
+-- What a chunk gives, read by itself with its first line: a statement, nothing where it is blank, or its
+-- first fault.
 abbrev pub IsAnswerOf : ℕ → ℕ → List ℕ → Result (Option Statement) SyntaxFault → Type 0
 IsAnswerOf max_depth line chunk (Ok (Some s)) = IsUtf8 chunk × IsStatementIn line max_depth chunk s
 IsAnswerOf max_depth line chunk (Ok None) = IsUtf8 chunk × IsBlank line max_depth chunk
-IsAnswerOf max_depth line chunk (Err (NotUtf8 l c)) = ¬ (IsUtf8 chunk) × ((n : ℕ) × IsValidUpTo chunk n × (NotUtf8 l c ≡ not_utf8 line n chunk))
-IsAnswerOf max_depth line chunk (Err (Parse fault)) = IsUtf8 chunk × IsFaultIn line max_depth chunk fault × (fault ≢ OutOfMemory no_memory)
+IsAnswerOf max_depth line chunk (Err (NotUtf8 l c)) =
+    ¬ (IsUtf8 chunk) × ((n : ℕ) × IsValidUpTo chunk n × (NotUtf8 l c ≡ not_utf8 line n chunk))
+IsAnswerOf max_depth line chunk (Err (Parse fault)) =
+    IsUtf8 chunk × IsFaultIn line max_depth chunk fault × (fault ≢ OutOfMemory no_memory)
 
--- and then what the chunks after it give: a fault ends the list
-abbrev pub Follows : Result (Option Statement) SyntaxFault → (List Statement → Option SyntaxFault → Type 0) → List Statement → Option SyntaxFault → Type 0
+-- What such an answer and the chunks after it give together; `After` says it of those alone. A fault ends the
+-- list.
+abbrev pub Follows : Result (Option Statement) SyntaxFault → (List Statement → Option SyntaxFault → Type 0)
+    → List Statement → Option SyntaxFault → Type 0
 Follows (Err f) After statements fault = (statements ≡ []) × (fault ≡ Some f)
 Follows (Ok None) After statements fault = After statements fault
-Follows (Ok (Some s)) After statements fault = (more : List Statement) × (statements ≡ s ∷ more) × After more fault
+Follows (Ok (Some s)) After statements fault =
+    (more : List Statement) × (statements ≡ s ∷ more) × After more fault
 
 -- The chunks, of which the first begins at this line, have these statements before the first fault.
 abbrev pub AreStatementsOf : ℕ → ℕ → List (List ℕ) → List Statement → Option SyntaxFault → Type 0

@@ -1,5 +1,5 @@
--- What targets mark and what commands do to the statement in a slot, and what is told of it: the language of passes over BUILD
--- files (buildozer README; what is told is this project's own rule).
+-- What targets mark and what commands do to the statement in a slot, and what is told of it: the language of
+-- passes over BUILD files (buildozer README; what is told is this project's own rule).
 -- Begin with `meaning`.
 -- Of later stops: 5 `Command`, `after`, `note_of`, `printed_line`.
 use Rattle.std.specs.Prelude.{ℕ, Bool, false, not, List, [], ◌++◌, Option, map, option_to_list}
@@ -21,8 +21,8 @@ use Rattle.bz_passes.specs.Passes.{Meaning, Slot}
 abbrev pub note_told : List ℕ → Option Note → List Entry
 note_told rule note = map (note_entry rule) (option_to_list note)
 
--- The language. An empty slot is never marked. A command says the line that it prints, and then its note, with the rule shown as
--- the command finds it.
+-- The language. An empty slot is never marked. A command says the line that it prints, and then its note,
+-- with the rule shown as the command finds it.
 abbrev pub meaning : Package → Meaning Statement Target Command Entry
 meaning home = record {
   marks = λ target slot. map_or false (marks target) slot;

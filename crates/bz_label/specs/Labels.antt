@@ -1,7 +1,8 @@
--- Labels: a package and what is meant in it (buildozer README, targets; what it leaves open is this project's own rule).
+-- Labels: a package and what is meant in it (buildozer README, targets; what it leaves open is this project's
+-- own rule).
 -- Begin with `Package` and `Target`.
--- In no stop: `is_kind` of `Names` (identifiers joined by dots, none a keyword), for how a label is read, which `run` does
--- not reach.
+-- In no stop: `is_kind` of `Names` (identifiers joined by dots, none a keyword), for how a label is read,
+-- which `run` does not reach.
 use Rattle.std.specs.Prelude.{ℕ, nat_lt, nat_eq, ◌==◌, ◌<◌, ◌^◌, List, [], ◌∷◌, Bool, true, false, ◌&&◌, ◌||◌, not, if◌then◌else◌, IsTrue, Option, None, Some, Result, Ok, Err, codes, length, drop, bytes_eq, unwrap_or}
 use Rattle.std.specs.List.{position_or_len, list_all, list_any, before_first, after_first, starts_with, slice_split, last_or}
 use Rattle.std.specs.Char.{is_ascii_digit}
@@ -31,20 +32,23 @@ pub data Target : Type 0 where
 abbrev pub is_plain : ℕ → Bool
 is_plain b = nat_lt 32 b && not (b == 127)
 
+-- `/`
 abbrev pub is_slash : ℕ → Bool
 is_slash b = b == 47
 
+-- `:`
 abbrev pub is_colon : ℕ → Bool
 is_colon b = b == 58
 
--- the parts of a path
+-- the parts of a path: what stands between its slashes
 abbrev pub parts_of : List ℕ → List (List ℕ)
 parts_of path = slice_split is_slash path
 
 abbrev pub is_part : List ℕ → Bool
 is_part part = not (list_any (bytes_eq part) (codes "" ∷ codes "." ∷ codes ".." ∷ codes "..." ∷ []))
 
--- The path of a package: empty for the root, or parts joined by `/`. One that begins with `@` would name another repository.
+-- The path of a package: empty for the root, or parts joined by `/`. One that begins with `@` would name
+-- another repository.
 abbrev pub is_path : List ℕ → Bool
 is_path path = list_all is_plain path && not (starts_with nat_eq path (codes "@")) && (bytes_eq path [] || list_all is_part (parts_of path))
 
@@ -84,6 +88,7 @@ pair_of (Err fault) target = Err fault
 pair_of (Ok package_) (Err fault) = Err fault
 pair_of (Ok package_) (Ok target) = Ok (package_, target)
 
+-- the last part; empty, where there is none
 abbrev pub last_of : List (List ℕ) → List ℕ
 last_of parts = unwrap_or (last_or None parts) []
 

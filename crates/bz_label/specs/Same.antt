@@ -6,20 +6,23 @@ use Rattle.bz_label.specs.Labels.{Package, is_colon, parts_of, last_of}
 
 -- a name alone, without a colon: a target of the package
 abbrev pub is_local : List ℕ → Bool
-is_local text = not (bytes_eq text []) && not (list_any is_colon text) && not (starts_with nat_eq text (codes "/")) && not (starts_with nat_eq text (codes "@"))
+is_local text = not (bytes_eq text []) && not (list_any is_colon text)
+    && not (starts_with nat_eq text (codes "/")) && not (starts_with nat_eq text (codes "@"))
 
--- the path of a package before `:name`; standard input has none
+-- the path of a package before `:name` (47 is `/`, and below 58 `:`); standard input has none
 abbrev pub in_package : Package → List ℕ → List ℕ
 in_package None text = text
 in_package (Some path) text = 47 ∷ 47 ∷ (path ++ text)
 
--- the last part of a path is its name, where it is not empty
+-- a path with its last part as its name, if that is not empty; any other text as it is
 abbrev pub with_name : List ℕ → List ℕ
 with_name text =
     if starts_with nat_eq text (codes "//") && not (list_any is_colon text)
-    then (let name = last_of (parts_of text) in if bytes_eq name [] then text else text ++ 58 ∷ name) else text
+    then (let name = last_of (parts_of text) in if bytes_eq name [] then text else text ++ 58 ∷ name)
+    else text
 
--- a label in full: a name alone gets its colon, a target of the package the path before it, and a path its name
+-- a label in full: a name alone gets its colon, a target of the package the path before it, and a path its
+-- name
 abbrev pub completed : Package → List ℕ → List ℕ
 completed package_ text =
     let target = if is_local text then 58 ∷ text else text in

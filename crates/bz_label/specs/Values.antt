@@ -1,6 +1,7 @@
--- The values of string literals (Starlark specification, "String literals"; which literals have none is this project's own
--- rule), and how a value is written as one. A unit is a byte, or an escape: a backslash and what it takes along (stop 8,
--- `units`). `Opening`, of `src/scan_string.rt` of bz_token, has the number of prefix letters and the quotes.
+-- The values of string literals (Starlark specification, "String literals"), and how a value is written as
+-- one. Which literals have no value, and the written form, are this project's own rule. A unit is a byte, or
+-- an escape: a backslash and what it takes along (stop 8, `units`). `Opening`, of `src/scan_string.rt` of
+-- bz_token, has the number of prefix letters and the quotes.
 -- Begin with `value_of` and `quoted`.
 -- Of later stops: 8 `closing_row`, `inside`, `is_byte`, `is_string`, `opening`.
 use Rattle.std.specs.Prelude.{ℕ, ◌-◌, ◌≡◌, ◌⊎◌, not, ◌==◌, List, [], ◌∷◌, ◌++◌, Bool, true, false, ◌&&◌, if◌then◌else◌, Option, Some, None, option_map, codes, length, take, bytes_eq, option_and_then}
@@ -16,13 +17,14 @@ use Rattle.bz_token.specs.Strings.{is_byte, is_quote, opening, closing_row, insi
 abbrev pub content : Opening → List ℕ → List (List ℕ)
 content o text = take (length (inside o text) - closing_row o.quotes.long) (inside o text)
 
--- The escapes that have a value, a b f n r t v, backslash and both quotes: what stands after the backslash, and the value. No
--- other has one, as octal, `x`, `u` and a backslash before a newline.
+-- The escapes that have a value, a b f n r t v, backslash and both quotes: what stands after the backslash,
+-- and the value. No other has one, as octal, `x`, `u` and a backslash before a newline.
 abbrev pub escapes : List (ℕ × ℕ)
 escapes =
     (97, 7) ∷ (98, 8) ∷ (102, 12) ∷ (110, 10) ∷ (114, 13) ∷ (116, 9) ∷ (118, 11)
     ∷ (92, 92) ∷ (39, 39) ∷ (34, 34) ∷ []
 
+-- the value that a table of escapes has for the byte after the backslash
 abbrev pub meant : ℕ → List (ℕ × ℕ) → Option ℕ
 meant b [] = None
 meant b (e ∷ es) = if b == e.0 then Some e.1 else meant b es
@@ -40,15 +42,17 @@ values raw (u ∷ us) =
     if is_byte 13 u && map_or false (is_byte 10) (first_of us) then values raw us
     else option_and_then (λ b. option_map (λ bs. b ∷ bs) (values raw us)) (unit_value raw u)
 
--- no literal has a value whose prefix has a `b`
+-- the value of these units after a prefix: none, where that has a `b`
 abbrev pub value_after : List ℕ → List (List ℕ) → Option (List ℕ)
 value_after prefix us =
-    if bytes_eq prefix [] then values false us else (if bytes_eq prefix (codes "r") then values true us else None)
+    if bytes_eq prefix [] then values false us
+    else (if bytes_eq prefix (codes "r") then values true us else None)
 
 -- The value of a text that is one whole literal.
 abbrev pub value_of : List ℕ → Option (List ℕ)
 value_of text =
-    option_and_then (λ o. if is_string text then value_after (take o.prefix text) (content o text) else None) (opening text)
+    option_and_then (λ o. if is_string text then value_after (take o.prefix text) (content o text) else None)
+    (opening text)
 
 -- a byte that stands for itself in a string of one quote
 abbrev pub is_plain : ℕ → ℕ → Bool

@@ -11,15 +11,16 @@ use Rattle.bz_token.specs.Common.{is_filled}
 abbrev pub has_comment : Segment → Bool
 has_comment s = is_filled s.before || is_some s.suffix
 
--- lists and rules of two or more segments, dicts of one or more
+-- what is broken by the number of its segments: lists and rules of two or more, dicts of one or more
 abbrev pub breaks_by_count : GroupKind → ℕ → Bool
 breaks_by_count ListKind n = nat_le 2 n
 breaks_by_count RuleCall n = nat_le 2 n
 breaks_by_count Dict n = nat_le 1 n
 breaks_by_count _ n = false
 
--- A group is broken by a comment in it, by the number of its segments, or, if it has two or more, by a broken group in one of
--- them (`inside`: written without a break of its own, it would still stand on several lines).
+-- A group is broken by a comment in it, by the number of its segments, or, if it has two or more, by a broken
+-- group in one of them (`inside`: written without a break of its own, it would still stand on several lines).
 abbrev pub is_broken : GroupKind → List Segment → List (List ℕ) → Bool → Bool
 is_broken kind ss end inside =
-    is_filled end || list_any has_comment ss || breaks_by_count kind (length ss) || nat_le 2 (length ss) && inside
+    is_filled end || list_any has_comment ss || breaks_by_count kind (length ss)
+    || nat_le 2 (length ss) && inside

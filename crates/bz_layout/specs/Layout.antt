@@ -1,4 +1,5 @@
--- The canonical text of a statement (this project's own layout): its tokens and comments in order, each after its gap.
+-- The canonical text of a statement (this project's own layout): its tokens and comments in order, each after
+-- its gap.
 -- Begin with `layout_text`.
 use Rattle.std.specs.Prelude.{codes, ℕ, ◌+◌, List, [], ◌∷◌, ◌++◌, Bool, true, false, ◌||◌, if◌then◌else◌, Option, length, nat_le}
 use Rattle.std.specs.Prelude.Option.{Some, None}
@@ -17,7 +18,7 @@ use Rattle.bz_layout.specs.Spacing.{gap_before}
 use Rattle.bz_layout.specs.Broken.{is_broken}
 use Rattle.bz_layout.specs.Pieces.{Piece, piece, are_lined, bytes_of, comma_if, comments, comment_lines, suffix_piece}
 
--- the brackets of a group
+-- the opening and the closing bracket of a group
 abbrev pub brackets : GroupKind → List ℕ × List ℕ
 brackets ListKind = (codes "[", codes "]")
 brackets Index = (codes "[", codes "]")
@@ -26,7 +27,7 @@ brackets Dict = (codes "{", codes "}")
 brackets DictComp = (codes "{", codes "}")
 brackets _ = (codes "(", codes ")")
 
--- a broken group has a comma after each segment, but for these
+-- whether a broken group of n segments has a comma after each
 abbrev pub has_commas : GroupKind → Bool → ℕ → Bool
 has_commas ListComp one_comma n = false
 has_commas DictComp one_comma n = false
@@ -34,14 +35,16 @@ has_commas Index one_comma n = false
 has_commas Paren one_comma n = one_comma || nat_le 2 n
 has_commas _ one_comma n = true
 
--- in flat text no group is broken (`Style` is an enum of `src/broken.rt`)
+-- whether a group is broken in a text of this style: in a flat one none is (`Style` is an enum of
+-- `src/broken.rt`)
 abbrev pub breaks : Style → Bool → Bool
 breaks Flat broken = false
 breaks Broken broken = broken
 
--- The level is that of the line on which a node stands: a broken group puts its segments one level deeper, any other group
--- leaves them on the line.
+-- The level is the indentation of the line on which a node stands: a broken group puts its segments one level
+-- deeper, any other group leaves them on the line.
 abbrev mutual
+  -- a node after a gap
   pub item_pieces : Style → ℕ → Gap → Item → List Piece
   item_pieces style level gap (leaf kind text) = piece gap kind (respell kind text) ∷ []
   item_pieces style level gap (group kind segs one_comma end) =
@@ -53,7 +56,8 @@ abbrev mutual
       ++ (comments (level + 1) end ++ piece (Line level) Operator (brackets kind).1 ∷ [])
       else in_place ++ (comma_if one_comma ++ piece Closed Operator (brackets kind).1 ∷ []))
 
-  -- the nodes of a segment or statement, after those before them (`before`; in a `seg` these are the comments above it)
+  -- the nodes of a segment or statement, after those before them (`before`; in a `seg` these are the comments
+  -- above it)
   pub items_pieces : Style → ℕ → Option GroupKind → Gap → List Item → Items → List Piece
   items_pieces style level within first before no_items = []
   items_pieces style level within first before (item x xs) =
@@ -68,7 +72,8 @@ abbrev mutual
       ++ (items_pieces style level (Some kind) (Line level) [] nodes
       ++ (comma_if comma ++ (suffix_piece suffix ++ broken_segs style level kind comma ss)))
 
-  -- segments in place, a comma and a space between them; they have no comments, or the text is flat and leaves them out
+  -- segments in place, a comma and a space between them (`first`: none stands before these); they have no
+  -- comments, or the text is flat and leaves them out
   pub flat_segs : Style → ℕ → GroupKind → Bool → Segs → List Piece
   flat_segs style level kind first no_segs = []
   flat_segs style level kind first (seg before nodes suffix ss) =
@@ -82,11 +87,13 @@ statement_line s =
     items_pieces Broken 0 None Closed [] (items_of s.nodes)
     ++ (suffix_piece s.suffix ++ piece Closed Newline (codes "\n") ∷ [])
 
+-- the class of comment lines alone
 abbrev pub is_comment : Class → Bool
 is_comment Comment = true
 is_comment _ = false
 
--- the comments above, then the statement; comment lines alone have no more (a block is one token, written as it stands)
+-- the comments above, then the statement; comment lines alone have no more (a block is one token, written as
+-- it stands)
 abbrev pub layout : Statement → List Piece
 layout s = comment_lines s.before ++ (if is_comment s.class then [] else statement_line s)
 

@@ -1,6 +1,7 @@
 -- Where a space stands between two neighbouring nodes (this project's own rule).
 -- Begin with `gap_before`.
--- Everywhere `within` is the kind of the group around the nodes, and `before` what stands before a node, the nearest first.
+-- Everywhere `within` is the kind of the group around the nodes, and `before` what stands before a node, the
+-- nearest first.
 use Rattle.std.specs.Prelude.{codes, List, [], ◌∷◌, ℕ, Bool, true, false, not, ◌&&◌, ◌||◌, if◌then◌else◌, Option, bytes_eq}
 use Rattle.std.specs.List.{list_any}
 use Rattle.bz_token.specs.declared.token.Kind.TheVariants.{Keyword, Operator}
@@ -34,6 +35,7 @@ begins_operand (leaf Keyword text ∷ before) = true
 begins_operand (leaf Operator text ∷ before) = not (bytes_eq text (codes "."))
 begins_operand _ = false
 
+-- the brackets of an index
 abbrev pub is_index : GroupKind → Bool
 is_index Index = true
 is_index _ = false

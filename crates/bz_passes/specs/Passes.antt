@@ -1,8 +1,8 @@
--- A script over the slots of a file: passes one after another, and in a pass command by command (the order is this project's
--- own rule).
+-- A script over the slots of a file: passes one after another, and in a pass command by command (the order is
+-- this project's own rule).
 -- Begin with `Slot`, `Meaning` and `Pass`.
--- It is stated for any statements S, targets T, commands C and log entries M, the arguments in braces. A log has one list of
--- entries for lines and messages, since their order is one.
+-- It is stated for any statements S, targets T, commands C and log entries M, the arguments in braces. A log
+-- has one list of entries for lines and messages, since their order is one.
 use Rattle.std.specs.Prelude.{◌≢◌, Any, Bool, not, ◌&&◌, if◌then◌else◌, List, [], ◌∷◌, ◌++◌, map, filter, fold, Option}
 use Rattle.std.specs.List.{flat_map, list_any}
 
@@ -10,8 +10,8 @@ use Rattle.std.specs.List.{flat_map, list_any}
 abbrev pub Slot : Type 0 → Type 0
 Slot S = Option S
 
--- What targets mean: which slots one marks, whether it has to mark some, and the entry where it marks none. What commands mean:
--- what one leaves in a slot, and the entries for what it says there.
+-- What targets mean: which slots one marks, whether it has to mark some, and the entry where it marks none.
+-- What commands mean: what one leaves in a slot, and the entries for what it says there.
 pub record Meaning (S T C M : Type 0) : Type 0 where
   pub marks : T → Slot S → Bool
   pub must_mark : T → Bool
@@ -56,11 +56,12 @@ pub record Execution (S C : Type 0) : Type 0 where
   pub found : Slot S
 
 module _ {S T C M : Type 0} (m : Meaning S T C M) where
-  -- the executions of commands: command by command, and of each slot by slot
+  -- the executions of a pass's commands on its slots: of each command in turn, slot by slot
   abbrev pub executions : List C → List (Marked S) → List (Execution S C)
   executions [] xs = []
   executions (c ∷ cs) xs =
-      map (λ x. record { command = c; found = x.slot }) (filter (λ x. x.mark) xs) ++ executions cs (map (executed m c) xs)
+      map (λ x. record { command = c; found = x.slot }) (filter (λ x. x.mark) xs)
+      ++ executions cs (map (executed m c) xs)
 
   -- the executions of the passes, one after another
   abbrev pub executions_of : List (Pass T C) → List (Slot S) → List (Execution S C)
@@ -84,5 +85,6 @@ module _ {S T C M : Type 0} (m : Meaning S T C M) where
   abbrev pub log_of : List (Pass T C) → List (Slot S) → List M
   log_of [] slots = []
   log_of (p ∷ ps) slots =
-      (missing p.target (list_any (m.marks p.target) slots) ++ said (executions p.commands (map (marked m p.target) slots)))
+      (missing p.target (list_any (m.marks p.target) slots)
+      ++ said (executions p.commands (map (marked m p.target) slots)))
       ++ log_of ps (slots_after_pass m p slots)

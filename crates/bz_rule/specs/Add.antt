@@ -10,21 +10,27 @@ use Rattle.bz_attribute.specs.Lists.{with_value, parts, same}
 use Rattle.bz_attribute.specs.Effects.{has, edit_first, edit_part, is_chosen, string, list_item, argument}
 use Rattle.bz_token.specs.Common.{is_empty, map_or}
 
--- `add <attr> <v>..`: the values that no element of a list part equals and no earlier value is the same as
+-- a value that no element of these list parts equals, and that no earlier value is the same as
 abbrev pub is_fresh : Package → List (List Segment) → List (List ℕ) → List ℕ → Bool
-is_fresh home lists earlier v = not (list_any (list_any (is_chosen home (Values (v ∷ [])))) lists || list_any (same home v) earlier)
+is_fresh home lists earlier v =
+    not (list_any (list_any (is_chosen home (Values (v ∷ [])))) lists || list_any (same home v) earlier)
 
+-- the fresh ones of some values, after the earlier ones
 abbrev pub fresh : Package → List (List Segment) → List (List ℕ) → List (List ℕ) → List (List ℕ)
 fresh home lists earlier [] = []
-fresh home lists earlier (v ∷ values) = (if is_fresh home lists earlier v then v ∷ [] else []) ++ fresh home lists (earlier ++ v ∷ []) values
+fresh home lists earlier (v ∷ values) =
+    (if is_fresh home lists earlier v then v ∷ [] else []) ++ fresh home lists (earlier ++ v ∷ []) values
 
+-- the elements that `add` puts in beside these list parts
 abbrev pub new_elements : Package → List (List Segment) → List (List ℕ) → List Segment
 new_elements home lists values = map string (fresh home lists [] values)
 
--- they go to the end of the first list part
+-- an argument with them at the end of its first list part; one without list part stays
 abbrev pub with_added : Package → List (List ℕ) → Segment → Segment
-with_added home values a = if is_empty (parts (value a)) then a else with_value (edit_part (λ ss. true) (λ ss. ss ++ new_elements home (parts (value a)) values) (value a)) a
+with_added home values a = if is_empty (parts (value a)) then a else
+    with_value (edit_part (λ ss. true) (λ ss. ss ++ new_elements home (parts (value a)) values) (value a)) a
 
+-- `add <attr> <v>..`: in the first argument of the name, else in a new one
 abbrev pub add : Package → List ℕ → List (List ℕ) → List Segment → List Segment
 add home attr values args =
     if has attr args then edit_first (is_named attr) (λ a. with_added home values a ∷ []) args

@@ -1,10 +1,10 @@
--- The ten commands: how their words are read (buildozer README, edit commands; the refusals are this project's own rule),
--- a test of their words; the statement after each, and what it tells.
+-- The ten commands: how their words are read (buildozer README, edit commands; the refusals are this
+-- project's own rule), a test of their words; the statement after each, and what it tells.
 -- Begin with `after` and `note_of`.
 -- `run` reaches `Command`, `is_print`, and what stands from `args_after` to `printed_line`.
--- In no stop, since `run` does not reach what they are for: bz_label `Words` (a text as words), `Names` (identifiers and
--- kinds), `Arguments` (what arguments keep that were read, a test of their words). They are for how commands are read
--- (`command_of`, `is_command`) and for `command_passes`.
+-- In no stop, since `run` does not reach what they are for: bz_label `Words` (a text as words), `Names`
+-- (identifiers and kinds), `Arguments` (what arguments keep that were read, a test of their words). They are
+-- for how commands are read (`command_of`, `is_command`) and for `command_passes`.
 use Rattle.std.specs.Prelude.{◌≡◌, ℕ, ◌==◌, List, [], ◌∷◌, Bool, true, false, ◌&&◌, ◌||◌, not, if◌then◌else◌, Option, Some, None, Result, Ok, Err, map, length, codes, bytes_eq, option_map, option_and_then}
 use Rattle.std.specs.List.{list_all, list_any}
 use Rattle.std.specs.Str.{is_utf8}
@@ -154,6 +154,7 @@ is_command (Replace attrs old new) = are_attributes attrs
 is_command (Comment place text) = is_commented place && not (list_any breaks_line text)
 is_command (Print fields) = list_all is_named_field fields
 
+-- a command that prints, and changes nothing
 abbrev pub is_print : Command → Bool
 is_print (Print fields) = true
 is_print _ = false
@@ -189,7 +190,7 @@ args_after (Comment (Attribute attr) text) home args = comment_attribute attr te
 args_after (Comment (Value attr value) text) home args = comment_value home attr value text args
 args_after _ home args = args
 
--- why it does nothing to them
+-- why a command on arguments does nothing to them
 abbrev pub args_note : Command → Package → List Segment → Option Note
 args_note (Add attr values) home args = not_a_list attr (first_named attr args)
 args_note (Rename old new) home args = rename_note old new args
@@ -198,7 +199,8 @@ args_note (Comment (Attribute attr) text) home args = is_absent attr args
 args_note (Comment (Value attr value) text) home args = comment_note home attr value args
 args_note _ home args = None
 
--- What stands in a slot after a command. What is no rule stays as it is. (`Comment Rule`: the comment above a rule.)
+-- What stands in a slot after a command. What is no rule stays as it is. (`OfRule` is the variant `Rule`: the
+-- comment above a rule.)
 abbrev pub after : Command → Package → Option Statement → Option Statement
 after Delete home slot = if holds_rule slot then None else slot
 after (Set (ToKind kind)) home slot = option_map (with_kind kind) slot
@@ -246,7 +248,8 @@ done_of command home slot = slot_done (args_done command home) slot
 
 -- Of each command for the laws: which attributes it mentions, and whether it leaves all comments.
 
--- the attributes that a command mentions; it looks at no other argument's value, but for that of a rule's name, and changes none
+-- the attributes that a command mentions; it looks at no other argument's value, but for that of a rule's
+-- name, and changes none
 abbrev pub mentions : Command → List ℕ → Bool
 mentions (Add attr values) name = bytes_eq attr name
 mentions (Remove attrs values) name = attributes_mention name attrs

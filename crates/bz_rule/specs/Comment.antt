@@ -23,34 +23,41 @@ abbrev pub trimmed : List ℕ → List ℕ
 trimmed [] = []
 trimmed (b ∷ bs) = if list_all is_blank (b ∷ bs) then [] else b ∷ trimmed bs
 
--- the comment line of a text
+-- the comment line of a text, after a number sign and a space
 abbrev pub comment_line : List ℕ → List ℕ
 comment_line text = trimmed (35 ∷ 32 ∷ text)
 
 -- `comment <text>`
 abbrev pub comment_rule : List ℕ → Statement → Statement
-comment_rule text s = record s { before = map_or s.before (λ r. s.before ++ comment_line text ∷ []) (rule_of s.nodes) }
+comment_rule text s = record s {
+  before = map_or s.before (λ r. s.before ++ comment_line text ∷ []) (rule_of s.nodes);
+}
 
 -- `comment <attr> <text>`
 abbrev pub comment_attribute : List ℕ → List ℕ → List Segment → List Segment
-comment_attribute attr text args = if has attr args then edit_first (is_named attr) (λ a. with_comment (comment_line text) a ∷ []) args else args
+comment_attribute attr text args = if has attr args
+    then edit_first (is_named attr) (λ a. with_comment (comment_line text) a ∷ []) args else args
 
 -- an argument with the line above its first element of this value, in the first list part that has one
 abbrev pub comment_element : Package → List ℕ → List ℕ → Segment → Segment
 comment_element home v text a =
-    with_value (edit_part (list_any (equals home v)) (edit_first (equals home v) (λ s. with_comment (comment_line text) s ∷ [])) (value a)) a
+    with_value (edit_part (list_any (equals home v))
+    (edit_first (equals home v) (λ s. with_comment (comment_line text) s ∷ [])) (value a)) a
 
 -- the note where no element of a list part equals the value
 abbrev pub is_missing : Package → List ℕ → List ℕ → Option Segment → Option Note
-is_missing home attr v arg = option_and_then (λ a. if list_any (list_any (equals home v)) (parts (value a)) then None else Some (NoValue attr v)) arg
+is_missing home attr v arg = option_and_then
+    (λ a. if list_any (list_any (equals home v)) (parts (value a)) then None else Some (NoValue attr v)) arg
 
--- the attribute absent, without list part, without such an element: the first of these
+-- why it does nothing: the attribute absent, without list part, without such an element: the first of these
 abbrev pub comment_note : Package → List ℕ → List ℕ → List Segment → Option Note
-comment_note home attr v args = option_or (is_absent attr args) (option_or (not_a_list attr (first_named attr args)) (is_missing home attr v (first_named attr args)))
+comment_note home attr v args = option_or (is_absent attr args)
+    (option_or (not_a_list attr (first_named attr args)) (is_missing home attr v (first_named attr args)))
 
 -- `comment <attr> <v> <text>`
 abbrev pub comment_value : Package → List ℕ → List ℕ → List ℕ → List Segment → List Segment
-comment_value home attr v text args = if is_some (comment_note home attr v args) then args else edit_first (is_named attr) (λ a. comment_element home v text a ∷ []) args
+comment_value home attr v text args = if is_some (comment_note home attr v args) then args
+    else edit_first (is_named attr) (λ a. comment_element home v text a ∷ []) args
 
 -- whether it is a comment of an argument
 abbrev pub is_on_args : Commented → Bool

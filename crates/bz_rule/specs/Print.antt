@@ -25,28 +25,32 @@ use Rattle.bz_token.specs.Common.{map_or, is_empty}
 abbrev pub is_plain : List ℕ → Bool
 is_plain v = not (is_empty v) && not (list_any (λ b. b == 34 || nat_le b 32) v)
 
--- a value as a word
+-- the value of a string as a word: as it is, or in quotes where it is not plain
 abbrev pub word_form : List ℕ → List ℕ
 word_form v = if is_plain v then v else quoted v
 
--- strings as words in brackets
+-- strings as words in brackets, a space (32) between two
 abbrev pub words_text : List Segment → List ℕ
-words_text ss = codes "[" ++ join_with_byte 32 (map (λ s. map_or [] word_form (string_value s.nodes)) ss) ++ codes "]"
+words_text ss =
+    codes "[" ++ join_with_byte 32 (map (λ s. map_or [] word_form (string_value s.nodes)) ss) ++ codes "]"
 
--- a value that is no string: one list of strings with values as words in brackets, anything else as its text on one line
+-- a value that is no string: one list of strings with values as words in brackets, anything else as its text
+-- on one line
 abbrev pub list_text : List Item → List ℕ
 list_text nodes =
     let flat = flat_text (Some RuleCall) nodes in
-    map_or flat (λ ss. if list_all (λ s. is_some (string_value s.nodes)) ss then words_text ss else flat) (only_list nodes)
+    map_or flat (λ ss. if list_all (λ s. is_some (string_value s.nodes)) ss then words_text ss else flat)
+    (only_list nodes)
 
 -- a value: a string as a word, anything else as `list_text` has it
 abbrev pub value_text : List Item → List ℕ
 value_text nodes = map_or (list_text nodes) word_form (string_value nodes)
 
--- without fields the name and the kind
+-- the fields that are printed: without any, the name and the kind
 abbrev pub fields_of : List Field → List Field
 fields_of fields = if is_empty fields then ValueOf (codes "name") ∷ Kind ∷ [] else fields
 
+-- the word by which the command names a field
 abbrev pub field_name : Field → List ℕ
 field_name Label = codes "label"
 field_name Kind = codes "kind"
@@ -64,7 +68,7 @@ module _ (home : Package) (s : Statement) (r : Rule) where
   field_text EndLine = Some (decimal s.end)
   field_text (ValueOf attr) = option_map (λ a. value_text (value a)) (first_named attr r.args)
 
-  -- the line of some fields
+  -- the line of some fields, a space between two
   abbrev pub line_of : List Field → List ℕ
   line_of fields = join_with_byte 32 (map (λ f. map_or (codes "(missing)") (λ t. t) (field_text f)) fields)
 

@@ -12,17 +12,19 @@ use Rattle.bz_attribute.specs.Lists.{is_attribute}
 use Rattle.bz_attribute.specs.Effects.{has, edit_first, unchosen, chooses, filtered}
 use Rattle.bz_token.specs.Common.{map_or}
 
--- `remove *`: each keyword argument but `name`
+-- an argument that goes with `remove *`: a keyword argument, but not `name`
 abbrev pub goes_with_all : Segment → Bool
 goes_with_all a = is_attribute a && not (is_named (codes "name") a)
 
--- `remove *`, `remove * <v>..`, `remove <attr>` (each argument of the name goes), `remove <attr> <v>..` (in the first one)
+-- `remove *`, `remove * <v>..`, `remove <attr>` (each argument of the name goes), `remove <attr> <v>..` (in
+-- the first one)
 abbrev pub remove : Package → Attributes → List (List ℕ) → List Segment → List Segment
 remove home Every [] args = filter (λ a. not (goes_with_all a)) args
 remove home (Named attr) [] args = filter (λ a. not (is_named attr a)) args
 remove home Every values args =
     flat_map (λ a. if is_attribute a then filtered (unchosen home (Values values)) a else a ∷ []) args
-remove home (Named attr) values args = edit_first (is_named attr) (filtered (unchosen home (Values values))) args
+remove home (Named attr) values args =
+    edit_first (is_named attr) (filtered (unchosen home (Values values))) args
 
 -- whether it changes something
 abbrev pub removes : Package → Attributes → List (List ℕ) → List Segment → Bool

@@ -10,7 +10,8 @@ use Rattle.bz_attribute.specs.declared.done.Note.TheVariants.{NoAttribute, Attri
 
 -- why `rename` does nothing: the old name is absent, or the new one is there
 abbrev pub rename_note : List ℕ → List ℕ → List Segment → Option Note
-rename_note old new args = if has old args then (if has new args then Some (AttributeExists new) else None) else Some (NoAttribute old)
+rename_note old new args = if has old args then (if has new args then Some (AttributeExists new) else None)
+    else Some (NoAttribute old)
 
 -- a named argument under another name
 abbrev pub rename_to : List ℕ → Segment → Segment
@@ -18,4 +19,5 @@ rename_to name a = record a { nodes = leaf Identifier name ∷ drop 1 a.nodes }
 
 -- `rename <old> <new>`: the first argument of the name
 abbrev pub rename : List ℕ → List ℕ → List Segment → List Segment
-rename old new args = if is_some (rename_note old new args) then args else edit_first (is_named old) (λ a. rename_to new a ∷ []) args
+rename old new args = if is_some (rename_note old new args) then args
+    else edit_first (is_named old) (λ a. rename_to new a ∷ []) args

@@ -25,7 +25,8 @@ replaced_in home old new a = with_value (edit_parts (map (replaced home old new)
 
 -- `replace <attr> <old> <new>`: in the first argument of the name, and in all attributes where <attr> is `*`
 abbrev pub replace : Package → Attributes → List ℕ → List ℕ → List Segment → List Segment
-replace home (Named attr) old new args = edit_first (is_named attr) (λ a. replaced_in home old new a ∷ []) args
+replace home (Named attr) old new args =
+    edit_first (is_named attr) (λ a. replaced_in home old new a ∷ []) args
 replace home Every old new args = map (λ a. if is_attribute a then replaced_in home old new a else a) args
 
 -- whether it changes something

@@ -1,4 +1,5 @@
--- What `set` and `set_if_absent` do (buildozer README, edit commands; what a word stands for is this project's own rule).
+-- What `set` and `set_if_absent` do (buildozer README, edit commands; what a word stands for is this
+-- project's own rule).
 -- Begin with `set`, `set_if_absent` and `with_kind`.
 use Rattle.std.specs.Prelude.{ℕ, ◌==◌, List, [], ◌∷◌, ◌++◌, Bool, true, false, ◌&&◌, ◌||◌, not, if◌then◌else◌, Option, Some, None, is_some, map, codes, bytes_eq}
 use Rattle.std.specs.List.{join_by, list_any, list_all, slice_split}
@@ -12,10 +13,11 @@ use Rattle.bz_token.specs.Common.{map_or}
 use Rattle.std.specs.Char.{is_ascii_digit}
 use Rattle.std.specs.Cmp.Lexicographic.{pointwise}
 
--- the attributes that are lists in all rules
+-- the attributes that are lists in all rules (this project's own list; 32 is a space)
 abbrev pub list_attributes : List (List ℕ)
 list_attributes = slice_split (λ b. b == 32) (codes "srcs hdrs textual_hdrs deps runtime_deps exports data tools outs visibility default_visibility tags copts defines includes linkopts features")
 
+-- one of them
 abbrev pub is_list_attribute : List ℕ → Bool
 is_list_attribute attr = list_any (bytes_eq attr) list_attributes
 
@@ -24,6 +26,7 @@ abbrev pub is_number : List ℕ → Bool
 is_number [] = false
 is_number (b ∷ bs) = bytes_eq (b ∷ bs) (codes "0") || list_all is_ascii_digit (b ∷ bs) && not (b == 48)
 
+-- `True`, `False` or `None`
 abbrev pub is_constant : List ℕ → Bool
 is_constant word = list_any (bytes_eq word) (codes "True" ∷ codes "False" ∷ codes "None" ∷ [])
 
@@ -37,16 +40,17 @@ pub data New : Type 0 where
   -- a list of strings
   NewStrings : List (List ℕ) → New
 
--- one word that stands alone
+-- what one word stands for, where it is no list
 abbrev pub new_word : List ℕ → New
 new_word w = if is_number w then NewNumber w else (if is_constant w then NewConstant w else NewString w)
 
--- What the words stand for, where `was` is the argument that is there: a name is a string; one word is a list where the
--- attribute is one, by its name or by what is there; two or more words are a list.
+-- What the words stand for, where `was` is the argument that is there: a name is a string; one word is a list
+-- where the attribute is one, by its name or by what is there; two or more words are a list.
 abbrev pub new_of : List ℕ → List (List ℕ) → Option Segment → New
 new_of attr (word ∷ []) was =
     if bytes_eq attr (codes "name") then NewString word
-    else (if is_list_attribute attr || map_or false (λ a. is_some (only_list (value a))) was then NewStrings (word ∷ []) else new_word word)
+    else (if is_list_attribute attr || map_or false (λ a. is_some (only_list (value a))) was
+    then NewStrings (word ∷ []) else new_word word)
 new_of attr words was = NewStrings words
 
 -- the nodes that are written
@@ -65,6 +69,7 @@ is_value (NewStrings words) nodes =
     map_or false (pointwise (λ word s. is_text word (string_value s.nodes)) words) (only_list nodes)
 is_value _ _ = false
 
+-- an argument with the new value; one that has it already stays as it is written
 abbrev pub set_in : New → Segment → Segment
 set_in new a = if is_value new (value a) then a else with_value (new_value new) a
 
@@ -80,16 +85,21 @@ sets attr words arg = map_or true (λ a. not (is_value (new_of attr words (Some 
 
 -- `set_if_absent <attr> <v>..`
 abbrev pub set_if_absent : List ℕ → List (List ℕ) → List Segment → List Segment
-set_if_absent attr words args = if has attr args then args else args ++ argument attr (new_value (new_of attr words None)) ∷ []
+set_if_absent attr words args = if has attr args then args
+    else args ++ argument attr (new_value (new_of attr words None)) ∷ []
 
--- the tokens of a kind: identifiers, with a dot between two
+-- the tokens of a kind: identifiers, with a dot (46) between two
 abbrev pub kind_items : List ℕ → List Item
 kind_items kind =
-    join_by (λ name. leaf Identifier name ∷ []) (leaf Operator (codes ".") ∷ []) (slice_split (λ b. b == 46) kind)
+    join_by (λ name. leaf Identifier name ∷ []) (leaf Operator (codes ".") ∷ [])
+    (slice_split (λ b. b == 46) kind)
 
--- `set kind <k>`
+-- `set kind <k>`: a rule of this kind stays as it is written
 abbrev pub with_kind : List ℕ → Statement → Statement
-with_kind k s = record s { nodes = map_or s.nodes (λ r. if bytes_eq (kind_text r.kind) k then s.nodes else nodes_of (record r { kind = kind_items k })) (rule_of s.nodes) }
+with_kind k s = record s {
+  nodes = map_or s.nodes (λ r. if bytes_eq (kind_text r.kind) k then s.nodes
+      else nodes_of (record r { kind = kind_items k })) (rule_of s.nodes);
+}
 
 -- what `set kind` tells of a slot
 abbrev pub sets_kind_of : List ℕ → Option Statement → Done

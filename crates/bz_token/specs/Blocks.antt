@@ -1,5 +1,6 @@
--- Where a block begins and which lines go on with it (this project's own rule): a statement line that begins in column 1
--- with `def`, `for` or `if`, and the lines after it that are indented or empty; after an `if` also those of its branches.
+-- Where a block begins and which lines go on with it (this project's own rule): a statement line that begins
+-- in column 1 with `def`, `for` or `if`, and the lines after it that are indented or empty; after an `if`
+-- also those of its branches.
 -- Begin with `goes_on` and `opener`.
 use Rattle.std.specs.Prelude.{cond, bytes_eq, Option, Some, None, ℕ, List, [], ◌∷◌, Bool, true, false, not, ◌||◌, codes}
 use Rattle.std.specs.List.{take_while, concat}
@@ -9,12 +10,13 @@ use Rattle.bz_token.specs.Lexical.{is_word_byte}
 use Rattle.bz_token.specs.declared.cutter.block.Opener.{Opener}
 use Rattle.bz_token.specs.declared.cutter.block.Opener.TheVariants.{Def, For, If}
 
--- What stands after white space and continued lines, if it stands in column 1; `first`: this is column 1. (`cond b x y` is x
--- if b, else y.)
+-- What stands after white space and continued lines, if it stands in column 1; `first`: this is column 1.
+-- (`cond b x y` is x if b, else y.)
 abbrev pub head_from : Bool → List (List ℕ) → List ℕ
 head_from first [] = []
 head_from first (u ∷ us) =
-    elim (is_space true u) [ true ↦ head_from (not (is_one is_blank u)) us | false ↦ cond first (concat (u ∷ us)) [] ]
+    elim (is_space true u)
+    [ true ↦ head_from (not (is_one is_blank u)) us | false ↦ cond first (concat (u ∷ us)) [] ]
 
 -- the letters, digits and underscores that bytes begin with
 abbrev pub word_at : List ℕ → List ℕ
@@ -35,7 +37,8 @@ abbrev pub has_branch : Opener → List ℕ → Bool
 has_branch If text = bytes_eq (word_at text) (codes "elif") || bytes_eq (word_at text) (codes "else")
 has_branch _ text = false
 
--- whether text that follows a block goes on with it: its first byte is white space, or an `if` meets one of its branches
+-- whether text that follows a block goes on with it: its first byte is white space, or an `if` meets one of
+-- its branches
 abbrev pub goes_on : Opener → List ℕ → Bool
 goes_on word [] = false
 goes_on word (b ∷ bs) = is_white true b || has_branch word (b ∷ bs)

@@ -1,6 +1,6 @@
--- Which brackets are open, and which tokens fit there (Starlark specification, "Lexical elements": a newline within
--- brackets is white space; the greatest depth is this project's own rule). Open brackets are listed from the innermost
--- outwards.
+-- Which brackets are open, and which tokens fit there (Starlark specification, "Lexical elements": a newline
+-- within brackets is white space; the greatest depth is this project's own rule). Open brackets are listed
+-- from the innermost outwards.
 -- Begin with `open_after_token` and `fits`.
 use Rattle.std.specs.Prelude.{ℕ, List, [], ◌∷◌, length, drop, Bool, true, false, not, ◌&&◌, ◌||◌, ◌==◌, nat_lt, if◌then◌else◌}
 use Rattle.bz_token.specs.declared.token.Kind.{Kind}
@@ -33,7 +33,8 @@ closes_innermost (a ∷ opened) b = is_pair a b
 -- a bracket fits: at most so many are open then, and each closing one matches
 abbrev pub bracket_fits : ℕ → List ℕ → ℕ → Bool
 bracket_fits depth opened b =
-    if is_opening_bracket b then nat_lt (length opened) depth else (if is_closing_bracket b then closes_innermost opened b else true)
+    if is_opening_bracket b then nat_lt (length opened) depth
+    else (if is_closing_bracket b then closes_innermost opened b else true)
 
 -- a newline token
 abbrev pub is_line : Kind → Bool

@@ -1,5 +1,5 @@
--- Where a chunk ends; and what of it a `Cutter` answers, the code that takes a file line by line (`src/cutter.rt`; this project's
--- own rule).
+-- Where a chunk ends; and what of it a `Cutter` answers, the code that takes a file line by line
+-- (`src/cutter.rt`; this project's own rule).
 -- Begin with `EndsBefore`.
 use Rattle.std.specs.Prelude.{◌≡◌, ◌<◌, ◌++◌, length, ℕ, List, [], ◌∷◌, Bool, true, false, not, ◌&&◌, ◌==◌}
 use Rattle.bz_token.specs.declared.cutter.block.Opener.{Opener}
@@ -63,7 +63,8 @@ left Whole bytes = []
 left More bytes = bytes
 left Block bytes = bytes
 
--- What follows a block decides whether the chunk goes on: these bytes, and whatever comes after them, if anything may.
+-- What follows a block decides whether the chunk goes on: these bytes, and whatever comes after them, if
+-- anything may.
 abbrev pub IsNext : Next → Bool → List ℕ → List ℕ → Type 0
 IsNext Goes at_end bytes ahead = (rest : List ℕ) → (at_end ≡ true → rest ≡ []) → IsLonger bytes (ahead ++ rest)
 IsNext Ends at_end bytes ahead = (rest : List ℕ) → (at_end ≡ true → rest ≡ []) → EndsBefore bytes (ahead ++ rest)

@@ -1,5 +1,6 @@
--- The texts of each kind of token (Starlark specification, "Lexical elements"), each a test of a whole text, and which of
--- them count at a place.
+-- The texts of each kind of token (Starlark specification, "Lexical elements"), each a test of a whole text,
+-- and which of them count at a place. Own to this project: letters are those of ASCII, words that are only
+-- reserved are identifiers, a decimal number may begin with 0.
 -- Begin with `IsToken`.
 use Rattle.std.specs.Prelude.{ℕ, ◌≡◌, List, [], ◌∷◌, ◌++◌, length, Bool, true, false, not, ◌&&◌, ◌||◌, ◌==◌, nat_le, codes, bytes_eq, Some, None}
 use Rattle.std.specs.List.{list_all, list_any, prefix_len}
@@ -14,9 +15,11 @@ use Rattle.bz_token.specs.Common.{begins, is_empty, map_or}
 abbrev pub is_word_byte : ℕ → Bool
 is_word_byte b = is_ascii_alphabetic b || is_ascii_digit b || b == 95
 
+-- a newline
 abbrev pub is_newline : ℕ → Bool
 is_newline b = b == 10
 
+-- one of these texts
 abbrev pub is_one_of : List (List ℕ) → List ℕ → Bool
 is_one_of texts text = list_any (bytes_eq text) texts
 
@@ -24,46 +27,55 @@ is_one_of texts text = list_any (bytes_eq text) texts
 abbrev pub is_name : List ℕ → Bool
 is_name text = not (is_empty text) && not (begins is_ascii_digit text) && list_all is_word_byte text
 
+-- the keywords
 unfoldable pub keywords : List (List ℕ)
 keywords =
-    codes "and" ∷ codes "break" ∷ codes "continue" ∷ codes "def" ∷ codes "elif" ∷ codes "else" ∷ codes "for" ∷ codes "if"
-    ∷ codes "in" ∷ codes "lambda" ∷ codes "load" ∷ codes "not" ∷ codes "or" ∷ codes "pass" ∷ codes "return" ∷ []
+    codes "and" ∷ codes "break" ∷ codes "continue" ∷ codes "def" ∷ codes "elif" ∷ codes "else"
+    ∷ codes "for" ∷ codes "if" ∷ codes "in" ∷ codes "lambda" ∷ codes "load" ∷ codes "not" ∷ codes "or"
+    ∷ codes "pass" ∷ codes "return" ∷ []
 
+-- a keyword
 abbrev pub is_keyword : List ℕ → Bool
 is_keyword text = is_one_of keywords text
 
+-- `0` to `7`
 abbrev pub is_octal_digit : ℕ → Bool
 is_octal_digit b = nat_le 48 b && nat_le b 55
 
--- digits after the letter of a base, at least one
+-- the letter of a base (x, X, o or O) and its digits, at least one
 abbrev pub are_based : List ℕ → Bool
 are_based [] = false
 are_based (x ∷ digits) =
     not (is_empty digits)
-    && (((x == 120 || x == 88) && list_all is_ascii_hexdigit digits) || ((x == 111 || x == 79) && list_all is_octal_digit digits))
+    && (((x == 120 || x == 88) && list_all is_ascii_hexdigit digits)
+    || ((x == 111 || x == 79) && list_all is_octal_digit digits))
 
 -- decimal digits, or a 0, x or X and hexadecimal digits, or a 0, o or O and octal digits
 abbrev pub is_number : List ℕ → Bool
 is_number [] = false
 is_number (b ∷ bs) = list_all is_ascii_digit (b ∷ bs) || (b == 48 && are_based bs)
 
+-- the operators, brackets and other signs
 unfoldable pub operators : List (List ℕ)
 operators =
-    codes "+" ∷ codes "-" ∷ codes "*" ∷ codes "/" ∷ codes "//" ∷ codes "%" ∷ codes "**" ∷ codes "~" ∷ codes "&" ∷ codes "|"
-    ∷ codes "^" ∷ codes "<<" ∷ codes ">>" ∷ codes "." ∷ codes "," ∷ codes "=" ∷ codes ";" ∷ codes ":" ∷ codes "(" ∷ codes ")"
-    ∷ codes "[" ∷ codes "]" ∷ codes "{" ∷ codes "}" ∷ codes "<" ∷ codes ">" ∷ codes ">=" ∷ codes "<=" ∷ codes "==" ∷ codes "!="
-    ∷ codes "+=" ∷ codes "-=" ∷ codes "*=" ∷ codes "/=" ∷ codes "//=" ∷ codes "%=" ∷ codes "&=" ∷ codes "|=" ∷ codes "^="
+    codes "+" ∷ codes "-" ∷ codes "*" ∷ codes "/" ∷ codes "//" ∷ codes "%" ∷ codes "**" ∷ codes "~"
+    ∷ codes "&" ∷ codes "|" ∷ codes "^" ∷ codes "<<" ∷ codes ">>" ∷ codes "." ∷ codes "," ∷ codes "="
+    ∷ codes ";" ∷ codes ":" ∷ codes "(" ∷ codes ")" ∷ codes "[" ∷ codes "]" ∷ codes "{" ∷ codes "}"
+    ∷ codes "<" ∷ codes ">" ∷ codes ">=" ∷ codes "<=" ∷ codes "==" ∷ codes "!=" ∷ codes "+=" ∷ codes "-="
+    ∷ codes "*=" ∷ codes "/=" ∷ codes "//=" ∷ codes "%=" ∷ codes "&=" ∷ codes "|=" ∷ codes "^="
     ∷ codes "<<=" ∷ codes ">>=" ∷ []
 
+-- one of them
 abbrev pub is_operator_text : List ℕ → Bool
 is_operator_text text = is_one_of operators text
 
--- a number sign and what follows it on its line, without trailing white space
+-- the last byte is white space within a line
 abbrev pub ends_blank : List ℕ → Bool
 ends_blank [] = false
 ends_blank (b ∷ []) = is_blank b
 ends_blank (b ∷ c ∷ bs) = ends_blank (c ∷ bs)
 
+-- a number sign and what follows it on its line, without trailing white space
 abbrev pub is_comment : List ℕ → Bool
 is_comment text = begins (λ b. b == 35) text && not (list_any is_newline text) && not (ends_blank text)
 
@@ -78,16 +90,18 @@ is_text Newline text = bytes_eq text (10 ∷ [])
 is_text Comment text = is_comment text
 is_text Kept text = false
 
+-- the kind of integers
 abbrev pub is_number_kind : Kind → Bool
 is_number_kind Integer = true
 is_number_kind _ = false
 
+-- the kind of strings
 abbrev pub is_string_kind : Kind → Bool
 is_string_kind String = true
 is_string_kind _ = false
 
--- At a string's opening quotes only strings count, at three quotes only long ones; at a digit only all letters, digits and
--- underscores that stand there; anywhere else every text counts.
+-- At a string's opening quotes only strings count, at three quotes only long ones; at a digit only all
+-- letters, digits and underscores that stand there; anywhere else every text counts.
 abbrev pub counts : List ℕ → Kind → List ℕ → Bool
 counts place kind text = elim (opening place) [
   | Some o ↦ is_string_kind kind && (map_or false (λ o. o.quotes.long) (opening text) || not o.quotes.long)
@@ -97,12 +111,15 @@ counts place kind text = elim (opening place) [
   ]
 ]
 
--- A text of this kind is the token at its place, before these bytes: it counts there, and no longer text of any kind does.
+-- A text of this kind is the token at its place, before these bytes: it counts there, and no longer text of
+-- any kind does.
 pub record IsToken (kind : Kind) (text after : List ℕ) : Type 0 where
   pub whole : is_text kind text ≡ true
   pub counted : counts (text ++ after) kind text ≡ true
-  pub longest : (other : Kind) (more rest : List ℕ) → after ≡ more ++ rest → is_text other (text ++ more) ≡ true → counts (text ++ after) other (text ++ more) ≡ true → more ≡ []
+  pub longest : (other : Kind) (more rest : List ℕ) → after ≡ more ++ rest
+      → is_text other (text ++ more) ≡ true → counts (text ++ after) other (text ++ more) ≡ true → more ≡ []
 
 -- no text of any kind counts at this place
 abbrev pub HasNoToken : List ℕ → Type 0
-HasNoToken place = (kind : Kind) (text rest : List ℕ) → place ≡ text ++ rest → is_text kind text ≡ true → counts place kind text ≡ true → ⊥
+HasNoToken place = (kind : Kind) (text rest : List ℕ) → place ≡ text ++ rest
+    → is_text kind text ≡ true → counts place kind text ≡ true → ⊥

@@ -1,5 +1,6 @@
--- The logical lines of a file: what a newline outside brackets and strings ends (Starlark specification, "Lexical elements"). A
--- newline that breaks off a short string ends one too (this project's own rule). A line here is a list of pieces.
+-- The logical lines of a file: what a newline outside brackets and strings ends (Starlark specification,
+-- "Lexical elements"). A newline that breaks off a short string ends one too (this project's own rule). A
+-- line here is a list of pieces.
 -- Begin with `lines`.
 use Rattle.std.specs.Prelude.{ℕ, List, [], map, Bool, true, false, not, ◌&&◌, ◌||◌, if◌then◌else◌, None}
 use Rattle.std.specs.List.{list_all, concat, fold, last_or}
@@ -36,6 +37,7 @@ pub record Line : Type 0 where
   pub kind : LineKind
   pub broken : Bool
 
+-- the logical line of its pieces
 abbrev pub line_of : List (List ℕ) → Line
 line_of ps = record { text = concat ps; kind = kind_of ps; broken = breaks_off ps }
 

@@ -1,5 +1,5 @@
--- What a file is made of, as far as cutting it goes: strings, comments, continued lines and single bytes (Starlark
--- specification, "Lexical elements").
+-- What a file is made of, as far as cutting it goes: strings, comments, continued lines and single bytes
+-- (Starlark specification, "Lexical elements").
 -- Begin with `is_piece` and `is_space`.
 use Rattle.std.specs.Prelude.{ℕ, List, [], ◌∷◌, Bool, true, false, not, ◌&&◌, ◌||◌, ◌==◌, bytes_eq}
 use Rattle.std.specs.List.{list_any}
@@ -12,14 +12,15 @@ is_quoted text = map_or false (λ o. is_one_string o text) (opens_after 0 text)
 
 -- a string without its prefix that ends with the newline that breaks it off
 abbrev pub is_broken_off : List ℕ → Bool
-is_broken_off text = map_or false (λ o. is_one_string o text && has_break o.quotes (inside o text)) (opens_after 0 text)
+is_broken_off text =
+    map_or false (λ o. is_one_string o text && has_break o.quotes (inside o text)) (opens_after 0 text)
 
--- a number sign and what follows it on its line, white space at its end too
+-- a number sign (35) and what follows it on its line, white space at its end too
 abbrev pub is_comment : List ℕ → Bool
 is_comment [] = false
 is_comment (b ∷ bs) = b == 35 && not (list_any (λ c. c == 10) bs)
 
--- a backslash directly before a newline, or before a carriage return and a newline
+-- a backslash directly before a newline, or before a carriage return and a newline (92, 10 and 13)
 abbrev pub is_continued : List ℕ → Bool
 is_continued text = bytes_eq text (92 ∷ 10 ∷ []) || bytes_eq text (92 ∷ 13 ∷ 10 ∷ [])
 

@@ -1,14 +1,15 @@
--- Where a token stands: its line from the newlines before it, its column in bytes from the newline before it (this project's
--- own rule).
+-- Where a token stands: its line from the newlines before it, its column in bytes from the newline before it
+-- (this project's own rule).
 -- Begin with `Placed`, `line_at` and `column_at`.
 use Rattle.std.specs.Prelude.{ℕ, ◌+◌, List, [], ◌∷◌, count_by, ◌==◌, Bool, if◌then◌else◌}
 use Rattle.bz_token.specs.declared.token.Kind.{Kind}
 use Rattle.bz_token.specs.declared.token.Token.{Token}
 
--- the line after these bytes
+-- the line after these bytes, which begin on line `first` (10 is a newline)
 abbrev pub line_at : ℕ → List ℕ → ℕ
 line_at first before = first + count_by (λ b. b == 10) before
 
+-- the column after these bytes, which begin in this one
 abbrev pub column_from : ℕ → List ℕ → ℕ
 column_from column [] = column
 column_from column (b ∷ bs) = column_from (if b == 10 then 1 else column + 1) bs

@@ -1,5 +1,5 @@
--- What a text is read as: gaps and tokens in turn, each token the longest at its place (Starlark specification, "Lexical
--- elements").
+-- What a text is read as: gaps and tokens in turn, each token the longest at its place (Starlark
+-- specification, "Lexical elements").
 -- Begin with `AreTokensOf`.
 use Rattle.std.specs.Prelude.{◌≡◌, ℕ, List, [], ◌∷◌, ◌++◌, Bool, true, false, not, ◌==◌}
 use Rattle.std.specs.List.{list_any, list_all}
@@ -66,9 +66,9 @@ tokens_of first before lines (p ∷ ps) =
     token_of first (before ++ p.gap) lines p
     ∷ tokens_of first (before ++ (p.gap ++ p.text)) (line_at first (before ++ p.gap) ∷ lines) ps
 
--- The whole text is gaps and these tokens, and every bracket is closed. Lines count from `first`, and at most `depth` brackets
--- are open at once.
+-- The whole text is gaps and these tokens, and every bracket is closed. Lines count from `first`, and at most
+-- `depth` brackets are open at once.
 abbrev pub AreTokensOf : ℕ → ℕ → List ℕ → List Placed → Type 0
 AreTokensOf first depth bytes tokens =
-    (pieces : List Piece) × (rest : List ℕ) × IsReading depth [] pieces rest bytes × (is_gap false rest ≡ true)
-    × (open_after [] pieces ≡ []) × (tokens ≡ tokens_of first [] [] pieces)
+    (pieces : List Piece) × (rest : List ℕ) × IsReading depth [] pieces rest bytes
+    × (is_gap false rest ≡ true) × (open_after [] pieces ≡ []) × (tokens ≡ tokens_of first [] [] pieces)

@@ -1,5 +1,5 @@
--- String literals (Starlark specification, "String literals"; a prefix may also be `b`, as in Python): what opens one, what
--- stands inside, and what closes it.
+-- String literals (Starlark specification, "String literals"; a prefix may also be `b`, as in Python): what
+-- opens one, what stands inside, and what closes it.
 -- Begin with `opening` and `is_string`.
 use Rattle.std.specs.Prelude.{ℕ, ◌+◌, ◌-◌, List, [], ◌∷◌, length, take, drop, replicate, Bool, true, false, not, ◌&&◌, ◌||◌, ◌==◌, if◌then◌else◌, codes, bytes_eq, Option, Some, None}
 use Rattle.std.specs.List.{list_any, before_first, starts_with}
@@ -8,10 +8,11 @@ use Rattle.bz_token.specs.declared.scan_string.Opening.{Opening}
 use Rattle.bz_token.specs.Common.{begins, map_or}
 use Rattle.bz_token.specs.Groups.{grouped}
 
+-- a text that is this byte alone
 abbrev pub is_byte : ℕ → List ℕ → Bool
 is_byte b text = bytes_eq text (b ∷ [])
 
--- `"` or `'`
+-- `"` (34) or `'` (39)
 abbrev pub is_quote : ℕ → Bool
 is_quote b = b == 34 || b == 39
 
@@ -20,33 +21,37 @@ abbrev pub are_two : ℕ → List ℕ → Bool
 are_two q [] = false
 are_two q (a ∷ bs) = a == q && begins (λ b. b == q) bs
 
--- the quotes that stand here, after so many prefix letters: three where there are three, else one (`Opening` and `Quotes` are
--- structs of `src/scan_string.rt`)
+-- the quotes that stand here, after so many prefix letters: three where there are three, else one (`Opening`
+-- and `Quotes` are structs of `src/scan_string.rt`)
 abbrev pub opens_after : ℕ → List ℕ → Option Opening
 opens_after prefix [] = None
 opens_after prefix (q ∷ bs) =
-    if is_quote q then Some (record { prefix = prefix; quotes = record { byte = q; long = are_two q bs } }) else None
+    if is_quote q
+    then Some (record { prefix = prefix; quotes = record { byte = q; long = are_two q bs } }) else None
 
 -- the prefixes of strings; an `r` is raw, a `b` makes a bytes literal
 abbrev pub prefixes : List (List ℕ)
 prefixes = [] ∷ codes "r" ∷ codes "b" ∷ codes "rb" ∷ codes "br" ∷ []
 
--- what opens the string that begins at a place: a prefix, which is what stands before the first quote, and quotes
+-- what opens the string that begins at a place: a prefix, which is what stands before the first quote, and
+-- quotes
 abbrev pub opening : List ℕ → Option Opening
 opening place =
     let prefix = before_first is_quote place in
-    if list_any (bytes_eq prefix) prefixes then opens_after (length prefix) (drop (length prefix) place) else None
+    if list_any (bytes_eq prefix) prefixes
+    then opens_after (length prefix) (drop (length prefix) place) else None
 
 -- so many quotes in a row close a string
 abbrev pub closing_row : Bool → ℕ
 closing_row false = 1
 closing_row true = 3
 
--- What stands inside is units, bytes and escapes: a backslash takes the byte after it along, or a carriage return and a
--- newline.
+-- Whether an escape takes one more byte along: a backslash takes the byte after it, or a carriage return and
+-- a newline (92, 13 and 10).
 abbrev pub escape_takes : List ℕ → ℕ → Bool
 escape_takes unit b = is_byte 92 unit || (bytes_eq unit (92 ∷ 13 ∷ []) && b == 10)
 
+-- the units of bytes: escapes, and bytes that belong to none
 abbrev pub units : List ℕ → List (List ℕ)
 units bytes = grouped escape_takes bytes
 
@@ -58,12 +63,14 @@ inside o text = units (drop (o.prefix + closing_row o.quotes.long) text)
 abbrev pub has_closing : Quotes → List (List ℕ) → Bool
 has_closing quotes [] = false
 has_closing quotes (u ∷ us) =
-    starts_with bytes_eq (u ∷ us) (replicate (closing_row quotes.long) (quotes.byte ∷ [])) || has_closing quotes us
+    starts_with bytes_eq (u ∷ us) (replicate (closing_row quotes.long) (quotes.byte ∷ []))
+    || has_closing quotes us
 
 -- a newline breaks off a string in one quote
 abbrev pub has_break : Quotes → List (List ℕ) → Bool
 has_break quotes us = not quotes.long && list_any (is_byte 10) us
 
+-- the units without the last one
 abbrev pub but_last : List (List ℕ) → List (List ℕ)
 but_last (u ∷ v ∷ us) = u ∷ but_last (v ∷ us)
 but_last _ = []
@@ -75,4 +82,5 @@ is_one_string o text =
 
 -- one whole literal
 abbrev pub is_string : List ℕ → Bool
-is_string text = map_or false (λ o. has_closing o.quotes (inside o text) && is_one_string o text) (opening text)
+is_string text =
+    map_or false (λ o. has_closing o.quotes (inside o text) && is_one_string o text) (opening text)

@@ -1,4 +1,5 @@
--- Blocks: a statement that begins with `def`, `for` or `if` is kept as it was written (this project's own rule).
+-- Blocks: a statement that begins with `def`, `for` or `if` is kept as it was written (this project's own
+-- rule).
 -- Begin with `IsBlockOf`.
 -- Of later stops: 8 `Placed`, `column_at`, `line_at`, `opener_of`.
 use Rattle.std.specs.Prelude.{codes, ℕ, ◌+◌, ◌-◌, List, [], ◌∷◌, ◌++◌, map, find, Bool, true, false, not, if◌then◌else◌, ◌≡◌, ◌==◌, ◌&&◌, ◌||◌, nat_lt, Option, Some, None, is_some}
@@ -16,14 +17,16 @@ use Rattle.bz_tree.specs.Brackets.{leaf_of, end_line, is_line, without_lines}
 use Rattle.bz_tree.specs.Statement.{is_aside, bare_tokens, first_token, last_seen}
 use Rattle.bz_token.specs.Common.{is_filled, map_or}
 
--- the words that begin a block, `opener_of` of bz_token
+-- a token of this kind and text begins a block (`opener_of` of bz_token has the words)
 abbrev pub is_block_word_at : Kind → List ℕ → Bool
 is_block_word_at Keyword text = is_some (opener_of text)
 is_block_word_at _ text = false
 
+-- the same of a token with its place
 abbrev pub is_block_word : Placed → Bool
 is_block_word t = is_block_word_at t.kind t.text
 
+-- the operator `:`
 abbrev pub is_colon : Placed → Bool
 is_colon t = is_operator_item (codes ":") (leaf_of t)
 
@@ -35,9 +38,9 @@ ends_open tokens = map_or false is_colon (last_or None tokens)
 abbrev pub logical_lines : List Placed → List (List Placed)
 logical_lines tokens = map bare_tokens (slice_split (λ t. is_line (mark_of t)) tokens)
 
--- The columns of the lines that are still open are a stack, the innermost first. After the first token of a line: after a line that
--- ends with `:` it stands deeper than the innermost line, else on a column of the stack, which is popped down to it. None: it is
--- indented wrongly.
+-- The columns of the lines that are still open are a stack, the innermost first. After the first token of a
+-- line: after a line that ends with `:` it stands deeper than the innermost line, else on a column of the
+-- stack, which is popped down to it. None: it is indented wrongly.
 abbrev pub indented : Bool → ℕ → List ℕ → Option (List ℕ)
 indented true column [] = Some (column ∷ [])
 indented true column (c ∷ columns) = if nat_lt c column then Some (column ∷ c ∷ columns) else None
@@ -45,8 +48,8 @@ indented false column [] = None
 indented false column (c ∷ columns) =
     if c == column then Some (c ∷ columns) else indented false column columns
 
--- The line of the first logical line that is indented wrongly. `opens`: the line before ends with `:`. Blank lines and comment
--- lines do not count.
+-- The line of the first logical line that is indented wrongly. `opens`: the line before ends with `:`. Blank
+-- lines and comment lines do not count.
 abbrev pub bad_line : List ℕ → Bool → List (List Placed) → Option ℕ
 bad_line columns opens [] = None
 bad_line columns opens ([] ∷ lines) = bad_line columns opens lines
@@ -60,6 +63,7 @@ bad_line columns opens ((t ∷ ts) ∷ lines) =
 abbrev pub block_indent : List Placed → Option ℕ
 block_indent tokens = bad_line (1 ∷ []) false (logical_lines tokens)
 
+-- how many brackets are open after a token of this mark
 abbrev pub depth_after : Mark → ℕ → ℕ
 depth_after (Open shape) depth = depth + 1
 depth_after (Close shape) depth = depth - 1
@@ -97,6 +101,7 @@ pub record IsKeptText (first : ℕ) (bytes : List ℕ) (header last : Placed) (k
   pub begins : IsAt first before header
   pub ends : IsAt first (before ++ front) last
 
+-- a block as a statement: one node, the text that is kept
 abbrev pub kept_statement : List (List ℕ) → List ℕ → Placed → ℕ → Statement
 kept_statement before kept header end = record {
   before = before;
@@ -107,7 +112,8 @@ kept_statement before kept header end = record {
   end = end;
 }
 
--- The block that the tokens are: its text from the header's first token to the end of its last token, comments counted.
+-- The block that the tokens are: its text from the header's first token to the end of its last token,
+-- comments counted.
 pub record IsBlockOf (first : ℕ) (bytes : List ℕ) (tokens : List Placed) (s : Statement) : Type 0 where
   pub header : Placed
   pub last : Placed

@@ -1,4 +1,5 @@
--- What a list of tokens is by its brackets, without losing one, and what its brackets are as groups.
+-- What a list of tokens is by its brackets, without losing one, and what its brackets are as groups (which
+-- bracket is one: Starlark specification, "Grammar reference"; the groups are this project's own form).
 -- Begin with `AreNested`.
 -- Of later stops: 8 `Placed`.
 use Rattle.std.specs.Prelude.{codes, ℕ, List, [], ◌∷◌, ◌++◌, Bool, true, false, if◌then◌else◌, ◌==◌, ◌+◌, ◌≡◌, ◌&&◌, length, map, flat_map, count_by, Option, Some, None}
@@ -23,10 +24,11 @@ leaf_of t = leaf t.kind t.text
 
 -- what stands directly before a bracket that comes next, after one more thing; a comment changes nothing
 abbrev pub preceding : Preceding → Own → Preceding
-preceding b (node line x) = after_item x
-preceding b (comma t) = Other
-preceding b (comment line text) = b
+preceding before (node line x) = after_item x
+preceding before (comma t) = Other
+preceding before (comment line text) = before
 
+-- the keyword `for`
 abbrev pub is_for_item : Item → Bool
 is_for_item (leaf Keyword text) = bytes_eq text (codes "for")
 is_for_item _ = false
@@ -35,6 +37,7 @@ is_for_item _ = false
 abbrev pub has_for : List Own → Bool
 has_for owns = list_any is_for_item (flat_map nodes_of (before_first is_comma owns))
 
+-- a comma as a node; anything else as it is
 abbrev pub as_node : Own → Own
 as_node (comma t) = node t.line (leaf_of t)
 as_node x = x
@@ -43,13 +46,16 @@ as_node x = x
 abbrev pub own_items : Bool → List Own → List Own
 own_items one owns = map (λ own. if one then as_node own else own) owns
 
+-- parentheses that are neither a call nor a `load`
 abbrev pub is_paren : GroupKind → Bool
 is_paren Paren = true
 is_paren _ = false
 
+-- a bracket with this inside: one segment and a comma in parentheses are `(x,)`
 abbrev pub group_with : GroupKind → Inside → Item
 group_with kind i = group kind (segs_of i.segs) (is_paren kind && (length i.segs == 1) && i.trailing) i.end
 
+-- the bracket of a kind in which these stand
 abbrev pub group_of : GroupKind → List Own → Item
 group_of kind owns = group_with kind (inside (own_items (is_one kind) owns))
 
@@ -64,8 +70,10 @@ alone Comment t = Some (comment t.line t.text)
 alone Plain t = Some (node (end_line t) (leaf_of t))
 alone _ t = None
 
--- Two brackets of one shape, with this between them and `b` directly before, are this node. No segment is empty.
-pub record IsGroup (b : Preceding) (opening : Placed) (owns : List Own) (closing : Placed) (own : Own) : Type 0 where
+-- Two brackets of one shape, with this between them and `b` directly before, are this node. No segment is
+-- empty.
+pub record IsGroup (b : Preceding) (opening : Placed) (owns : List Own) (closing : Placed)
+    (own : Own) : Type 0 where
   pub shape : Shape
   pub kind : GroupKind
   pub opens : mark_of opening ≡ Open shape
@@ -78,15 +86,19 @@ pub record IsGroup (b : Preceding) (opening : Placed) (owns : List Own) (closing
 pub data AreNested : Preceding → List Placed → List Own → Type 0 where
   no_token : {b : Preceding} → AreNested b [] []
   single : {b : Preceding} {t : Placed} {ts : List Placed} {own : Own} {owns : List Own}
-      → alone (mark_of t) t ≡ Some own → AreNested (preceding b own) ts owns → AreNested b (t ∷ ts) (own ∷ owns)
-  bracket : {b : Preceding} {opening closing : Placed} {inner ts : List Placed} {inside owns : List Own} {own : Own}
-      → AreNested Other inner inside → IsGroup b opening inside closing own → AreNested (preceding b own) ts owns
-      → AreNested b (opening ∷ inner ++ closing ∷ ts) (own ∷ owns)
+      → alone (mark_of t) t ≡ Some own → AreNested (preceding b own) ts owns
+      → AreNested b (t ∷ ts) (own ∷ owns)
+  bracket : {b : Preceding} {opening closing : Placed} {inner ts : List Placed}
+      {inside owns : List Own} {own : Own}
+      → AreNested Other inner inside → IsGroup b opening inside closing own
+      → AreNested (preceding b own) ts owns → AreNested b (opening ∷ inner ++ closing ∷ ts) (own ∷ owns)
 
+-- the mark of a newline
 abbrev pub is_line : Mark → Bool
 is_line Newline = true
 is_line _ = false
 
+-- the tokens without newlines
 abbrev pub without_lines : List Placed → List Placed
 without_lines [] = []
 without_lines (t ∷ ts) = if is_line (mark_of t) then without_lines ts else t ∷ without_lines ts

@@ -1,7 +1,8 @@
--- The grammar of a statement's nodes: its rows as a table, and what it is to have the form of a row.
--- The rows are those of the Starlark specification ("Grammar reference") for one statement outside blocks, without `lambda`,
--- floats and `;`. Nothing is evaluated, so precedence is left out: a Binary is Unaries with any binary operators between them.
--- Own to this project: an index is one Test; the condition of an `if`, and what a `for` goes over, is one Binary.
+-- The grammar of a statement's nodes: its rows as a table, and what it is to have the form of a row. The rows
+-- are those of the Starlark specification ("Grammar reference") for one statement outside blocks, without
+-- `lambda`, floats, `;`, `pass`, `break`, `continue` and `return`. Nothing is evaluated, so precedence is
+-- left out: a Binary is Unaries with any binary operators between them. Own to this project: an index is one
+-- Test; the condition of an `if`, and what a `for` goes over, is one Binary.
 -- Begin with `IsStatement`.
 -- Of later stops: 8 `is_one_of`. It is in bz_token `Lexical`.
 use Rattle.std.specs.Prelude.{codes, ◌≡◌, ℕ, List, [], ◌∷◌, ◌++◌, Bool, true}
@@ -16,8 +17,9 @@ use Rattle.bz_token.specs.Lexical.{is_one_of}
 -- `f then g or h` is `(f then g) or h`
 infixr 30 ◌then◌
 infixr 20 ◌or◌
--- The rows. In the specification `Binary`, `Unary` and `Primary` are BinaryExpr, UnaryExpr and PrimaryExpr, and `Clauses` are
--- CompClauses. `Suffix` and `Bracketed` are DotSuffix, CallSuffix and SliceSuffix, `Subscript` what stands in a SliceSuffix.
+-- The rows. In the specification `Binary`, `Unary` and `Primary` are BinaryExpr, UnaryExpr and PrimaryExpr,
+-- and `Clauses` are CompClauses. `Suffix` and `Bracketed` are DotSuffix, CallSuffix and SliceSuffix,
+-- `Subscript` what stands in a SliceSuffix.
 pub data Row : Type 0 where
   Statement : Row
   LoadArgument : Row
@@ -44,19 +46,23 @@ pub data Form : Type 0 where
   -- a bracket, by the form of its segments; a segment, by that of its nodes
   bracket : GroupKind → Form → Form
   segment : Form → Form
+  -- what this row asks for
   row : Row → Form
+  -- one after the other, and one of both
   ◌then◌ : Form → Form → Form
   ◌or◌ : Form → Form → Form
   -- any number of times, one after another
   many : Form → Form
 
--- a keyword of this text, and a token of kind `Operator`
+-- the keyword of this text
 abbrev pub word : List ℕ → Form
 word text = one_of Keyword (text ∷ [])
 
+-- the operator of this text
 abbrev pub sign : List ℕ → Form
 sign text = one_of Operator (text ∷ [])
 
+-- the form, or nothing
 abbrev pub maybe : Form → Form
 maybe f = nothing or f
 
@@ -68,12 +74,14 @@ each_segment r = many (segment (row r))
 abbrev pub prefix : Form
 prefix = one_of Operator (codes "+" ∷ codes "-" ∷ codes "~" ∷ []) or word (codes "not")
 
+-- the binary operators that are no keywords
 abbrev pub binary_signs : List (List ℕ)
 binary_signs =
     codes "==" ∷ codes "!=" ∷ codes "<" ∷ codes ">" ∷ codes "<=" ∷ codes ">=" ∷ codes "|" ∷ codes "^"
     ∷ codes "&" ∷ codes "<<" ∷ codes ">>" ∷ codes "+" ∷ codes "-" ∷ codes "*" ∷ codes "/" ∷ codes "//"
     ∷ codes "%" ∷ []
 
+-- those that are one keyword
 abbrev pub binary_words : List (List ℕ)
 binary_words = codes "or" ∷ codes "and" ∷ codes "in" ∷ []
 
@@ -86,6 +94,7 @@ binary =
 abbrev pub star : Form
 star = one_of Operator (codes "*" ∷ codes "**" ∷ [])
 
+-- the assignment operators
 abbrev pub assignment : Form
 assignment = one_of Operator (codes "=" ∷ augmented)
 
@@ -121,15 +130,17 @@ rule Subscript =
     row Test or maybe (row Test) then sign (codes ":") then maybe (row Test)
     then maybe (sign (codes ":") then maybe (row Test))
 
--- what stands one after another: the nodes of a segment, or the segments of a bracket
+-- What a form is asked of is a list of parts: nodes of a segment, or segments of a bracket.
 pub data Part : Type 0 where
   node : Item → Part
   between_commas : Items → Part
 
+-- the nodes of a segment as parts
 abbrev pub nodes : Items → List Part
 nodes no_items = []
 nodes (item x xs) = node x ∷ nodes xs
 
+-- the segments of a bracket as parts
 abbrev pub contents : Segs → List Part
 contents no_segs = []
 contents (seg before xs beside segs) = between_commas xs ∷ contents segs
@@ -145,6 +156,7 @@ pub data Has : Form → List Part → Type 0 where
   in_segment : {f : Form} {xs : Items} → Has f (nodes xs) → Has (segment f) (between_commas xs ∷ [])
   by_rule : {r : Row} {ps : List Part} → Has (rule r) ps → Has (row r) ps
   both : {f g : Form} {ps qs : List Part} → Has f ps → Has g qs → Has (f then g) (ps ++ qs)
+  -- the form before an `or`, and the one after it
   this : {f g : Form} {ps : List Part} → Has f ps → Has (f or g) ps
   that : {f g : Form} {ps : List Part} → Has g ps → Has (f or g) ps
   no_more : {f : Form} → Has (many f) []
@@ -154,5 +166,6 @@ pub data Has : Form → List Part → Type 0 where
 abbrev pub Is : Row → Items → Type 0
 Is r xs = Has (row r) (nodes xs)
 
+-- the nodes are a statement of the grammar
 abbrev pub IsStatement : Items → Type 0
 IsStatement xs = Is Statement xs

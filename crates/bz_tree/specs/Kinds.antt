@@ -1,5 +1,6 @@
--- What a token is to the brackets, and what kind of group a bracket is (Starlark's grammar: calls, indexes, lists, dicts,
--- comprehensions). `Shape`, `Mark` and `Preceding` are enums of `src/tree/kinds.rt`; a `Mark` has to do with no target.
+-- What a token is to the brackets, and what kind of group a bracket is (Starlark specification, "Grammar
+-- reference": calls, indexes, lists, dicts, comprehensions). `Shape`, `Mark` and `Preceding` are enums of
+-- `src/tree/kinds.rt`; a `Mark` has to do with no target.
 -- Begin with `mark_of` and `group_kind`.
 -- Of later stops: 8 `Placed`.
 use Rattle.std.specs.Prelude.{codes, ℕ, List, Bool, true, false, if◌then◌else◌}
@@ -17,6 +18,7 @@ use Rattle.bz_tree.specs.declared.tree.kinds.Mark.TheVariants.{Open, Close, Comm
 use Rattle.bz_tree.specs.declared.tree.kinds.Preceding.{Preceding}
 use Rattle.bz_tree.specs.declared.tree.kinds.Preceding.TheVariants.{Operand, LoadWord, Other}
 
+-- what an operator is to the brackets
 abbrev pub operator_mark : List ℕ → Mark
 operator_mark text =
     if bytes_eq text (codes "(") then Open Round
@@ -35,10 +37,12 @@ kind_mark CommentToken text = Comment
 kind_mark Newline text = NewlineMark
 kind_mark _ text = Plain
 
+-- the same of a token with its place
 abbrev pub mark_of : Placed → Mark
 mark_of t = kind_mark t.kind t.text
 
--- what a bracket may stand after: an operand (then it is a call or an index), the keyword `load`, anything else
+-- what a node is to a bracket after it: an operand (the bracket is a call or an index), the keyword `load`,
+-- anything else
 abbrev pub after_item : Item → Preceding
 after_item (leaf Identifier text) = Operand
 after_item (leaf Integer text) = Operand
@@ -47,15 +51,16 @@ after_item (leaf Keyword text) = if bytes_eq text (codes "load") then LoadWord e
 after_item (leaf _ text) = Other
 after_item (group kind segs one_comma end) = Operand
 
--- The kind of a bracket, by its shape, what it stands after, and whether it is a comprehension (Starlark specification,
--- Comprehensions: one expression or entry, and then `for`). The call of a rule is made a `RuleCall` afterwards (`Statement`).
+-- The kind of a bracket, by its shape, what it stands after, and whether it is a comprehension (Starlark
+-- specification, "Comprehensions": one expression or entry, and then `for`). The call of a rule is made a
+-- `RuleCall` afterwards (`Statement`).
 abbrev pub group_kind : Shape → Preceding → Bool → GroupKind
-group_kind Round Operand comp = Call
-group_kind Round LoadWord comp = Load
-group_kind Round Other comp = Paren
-group_kind Square Operand comp = Index
-group_kind Square _ comp = if comp then ListComp else ListKind
-group_kind Curly b comp = if comp then DictComp else Dict
+group_kind Round Operand comprehension = Call
+group_kind Round LoadWord comprehension = Load
+group_kind Round Other comprehension = Paren
+group_kind Square Operand comprehension = Index
+group_kind Square _ comprehension = if comprehension then ListComp else ListKind
+group_kind Curly preceding comprehension = if comprehension then DictComp else Dict
 
 -- these have one segment, whose commas are nodes
 abbrev pub is_one : GroupKind → Bool

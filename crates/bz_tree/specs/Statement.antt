@@ -1,4 +1,4 @@
--- The statement that a list of tokens is: its tree, its class and its lines.
+-- The statement that a list of tokens is: its tree, its class and its lines (this project's own form).
 -- Begin with `IsStatementOf`.
 -- Of later stops: 8 `Placed`, `is_one_of`. They are in bz_token `Places` and `Lexical`.
 use Rattle.std.specs.Prelude.{codes, ℕ, List, [], ◌∷◌, ◌++◌, map, Bool, true, false, if◌then◌else◌, ◌≡◌, ◌<◌, ◌^◌, None, Option}
@@ -18,12 +18,13 @@ use Rattle.bz_token.specs.Lexical.{is_one_of}
 use Rattle.std.specs.List.{list_any, last_or}
 use Rattle.std.specs.Option.{option_or}
 
+-- a call as one of a rule
 abbrev pub as_rule_call : Item → Item
 as_rule_call (leaf kind text) = leaf kind text
 as_rule_call (group kind segs one_comma end) = group RuleCall segs one_comma end
 
--- Nodes and comments of a statement in which these stand at depth 0: that is one cell, and its end comments stand before it. The
--- call of a rule is a RuleCall.
+-- The nodes and comments of a statement, of what stands in it outside brackets: this is one cell, in which a
+-- comma is a node; its end comments stand before it too. The call of a rule is a `RuleCall`.
 abbrev pub segment_of : List Own → Segment
 segment_of owns =
     let cell = own_items true owns in
@@ -40,19 +41,22 @@ augmented =
     codes "+=" ∷ codes "-=" ∷ codes "*=" ∷ codes "/=" ∷ codes "//=" ∷ codes "%=" ∷ codes "&=" ∷ codes "|="
     ∷ codes "^=" ∷ codes "<<=" ∷ codes ">>=" ∷ []
 
+-- `=` or an augmented assignment
 abbrev pub is_assign : Item → Bool
 is_assign (leaf Operator text) = is_one_of (codes "=" ∷ augmented) text
 is_assign _ = false
 
+-- the keyword `load`
 abbrev pub is_load_word : Item → Bool
 is_load_word (leaf Keyword text) = bytes_eq text (codes "load")
 is_load_word _ = false
 
+-- the one node of a block, its text (`Blocks`)
 abbrev pub is_kept : Item → Bool
 is_kept (leaf Kept text) = true
 is_kept _ = false
 
--- The class of a statement, by its nodes. None: comment lines alone.
+-- The class of a statement, by its nodes: without nodes it is comment lines alone.
 abbrev pub class_of : List Item → Class
 class_of [] = Comment
 class_of (x ∷ xs) =
@@ -73,17 +77,19 @@ abbrev pub bare_tokens : List Placed → List Placed
 bare_tokens [] = []
 bare_tokens (t ∷ ts) = if is_aside t.kind then bare_tokens ts else t ∷ bare_tokens ts
 
--- the first and the last token of a statement, comments not counted
+-- the first token of a statement, comments not counted
 abbrev pub first_token : List Placed → Option Placed
 first_token tokens = first_of (bare_tokens tokens)
 
+-- the last token, comments not counted
 abbrev pub last_token : List Placed → Option Placed
 last_token tokens = last_or None (bare_tokens tokens)
 
--- with comments
+-- the first token or comment
 abbrev pub first_seen : List Placed → Option Placed
 first_seen tokens = first_of (without_lines tokens)
 
+-- the last token or comment
 abbrev pub last_seen : List Placed → Option Placed
 last_seen tokens = last_or None (without_lines tokens)
 
@@ -95,6 +101,7 @@ start_of tokens = map_or 0 (λ t. t.line) (option_or (first_token tokens) (first
 abbrev pub end_of : List Placed → ℕ
 end_of tokens = map_or 0 end_line (option_or (last_token tokens) (last_seen tokens))
 
+-- a segment of these tokens as a statement
 abbrev pub statement_with : List Placed → Segment → Statement
 statement_with tokens s = record {
   before = s.before;

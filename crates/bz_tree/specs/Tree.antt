@@ -1,5 +1,5 @@
--- What a statement is: nodes, which are tokens and bracket groups, the groups split at commas into segments, with their comments
--- (this project's own form). `GroupKind` and `Class` are enums of `src/tree.rt`.
+-- What a statement is: nodes, which are tokens and bracket groups, the groups split at commas into segments,
+-- with their comments (this project's own form). `GroupKind` and `Class` are enums of `src/tree.rt`.
 -- Begin with `Statement` and `is_rule`.
 use Rattle.std.specs.Prelude.{codes, ℕ, List, [], ◌∷◌, Bool, true, false, ◌&&◌, Option}
 use Rattle.std.specs.Str.{bytes_eq}
@@ -9,31 +9,36 @@ use Rattle.bz_tree.specs.declared.tree.GroupKind.{GroupKind}
 use Rattle.bz_tree.specs.declared.tree.GroupKind.TheVariants.{Call, RuleCall}
 use Rattle.bz_tree.specs.declared.tree.Class.{Class}
 
--- A node, lists of nodes, lists of segments. (`items_of` and `segs_of` make them of ordinary lists.)
+-- Nodes, and lists as a tree holds them (`items_of` and `segs_of` make these of ordinary lists).
 mutual
+  -- a node
   pub data Item : Type 0 where
     -- a token: its kind, as `Identifier` (`src/token.rt` of bz_token), and its text
     leaf : Kind → List ℕ → Item
     -- a bracket group: its kind, its segments, whether it is `(x,)`, the comments after its last segment
     group : GroupKind → Segs → Bool → List (List ℕ) → Item
 
+  -- a list of nodes
   pub data Items : Type 0 where
     no_items : Items
     item : Item → Items → Items
 
+  -- a list of segments
   pub data Segs : Type 0 where
     no_segs : Segs
     -- a segment, part by part as in `Segment`, and the segments after it
     seg : List (List ℕ) → Items → Option (List ℕ) → Segs → Segs
 
--- a segment: the comments above it, its nodes, the comment beside it (on the last line of its nodes, or of its comma)
+-- a segment: the comments above it, its nodes, the comment beside it (on the last line of its nodes, or of
+-- its comma)
 pub record Segment : Type 0 where
   pub before : List (List ℕ)
   pub nodes : List Item
   pub suffix : Option (List ℕ)
 
--- A statement: as a segment, its class, the line on which its first token begins and the line on which its last one ends.
--- Comments count for these lines only at the end of a block, and where they are alone: then there are no nodes.
+-- A statement: as a segment, its class, the line on which its first token begins and the line on which its
+-- last one ends. Comments count for these lines only at the end of a block, and where they are alone: then
+-- there are no nodes.
 pub record Statement : Type 0 where
   pub before : List (List ℕ)
   pub nodes : List Item
@@ -53,9 +58,11 @@ is_call Call = true
 is_call RuleCall = true
 is_call _ = false
 
--- A rule: identifiers joined by dots, one call and nothing more (the word is that of buildozer's README, what is one is this
--- project's own rule). In a statement that was read this call is a `RuleCall` (`with_rule_call`, stop 7).
+-- A rule: identifiers joined by dots, one call and nothing more (the word is that of buildozer's README, what
+-- is one is this project's own rule). In a statement that was read this call is a `RuleCall`
+-- (`segment_of`, stop 7).
 abbrev mutual
+  -- from the start, and after a dot
   pub is_rule : List Item → Bool
   is_rule (leaf Identifier text ∷ xs) = is_rule_after xs
   is_rule _ = false
@@ -66,19 +73,23 @@ abbrev mutual
   is_rule_after (group kind segs one_comma end ∷ []) = is_call kind
   is_rule_after _ = false
 
--- the same as lists, there and back
+-- an ordinary list of nodes as one of a tree
 abbrev pub items_of : List Item → Items
 items_of [] = no_items
 items_of (x ∷ xs) = item x (items_of xs)
 
+-- and back
 abbrev pub list_of : Items → List Item
 list_of no_items = []
 list_of (item x xs) = x ∷ list_of xs
 
+-- an ordinary list of segments as one of a tree
 abbrev pub segs_of : List Segment → Segs
 segs_of [] = no_segs
 segs_of (s ∷ ss) = seg s.before (items_of s.nodes) s.suffix (segs_of ss)
 
+-- and back
 abbrev pub segments : Segs → List Segment
 segments no_segs = []
-segments (seg before nodes suffix ss) = record { before = before; nodes = list_of nodes; suffix = suffix } ∷ segments ss
+segments (seg before nodes suffix ss) =
+    record { before = before; nodes = list_of nodes; suffix = suffix } ∷ segments ss
