@@ -15,18 +15,12 @@ use Rattle.bz_attribute.specs.Rules.{Rule, rule_of, is_named, value}
 use Rattle.bz_attribute.specs.Lists.{with_value, parts, edit_parts, edit_piece, equals, only_list, pieces, sum_of}
 use Rattle.bz_attribute.specs.declared.done.Done.{Done}
 use Rattle.bz_attribute.specs.declared.done.Note.{Note}
-use Rattle.bz_attribute.specs.declared.done.Note.TheVariants.{Missing, NoAttribute, NotAList}
+use Rattle.bz_attribute.specs.declared.done.Note.TheVariants.{NoAttribute, NotAList}
 
 -- what a command reports (`Done`, in `src/done.rt`): where there is a note, nothing is changed
 abbrev pub done : Option Note → Bool → Done
 done None changed = record { changed = changed; line = None; note = None }
 done (Some note) changed = record { changed = false; line = None; note = Some note }
-
--- a note with which nothing was done
-abbrev pub fails : Option Note → Bool
-fails None = false
-fails (Some (Missing field)) = false
-fails (Some note) = true
 
 -- an argument has this name
 abbrev pub has : List ℕ → List Segment → Bool

@@ -47,7 +47,8 @@ impl Done {
         }
     }
 
-    pub fn failure(note: Note) -> Done
+    /// Nothing was done, for this reason.
+    pub fn noted(note: Note) -> Done
         ensures { result ≡ spec.done (Some note) false }
     {
         Done {
@@ -61,21 +62,21 @@ impl Done {
     pub fn no_attribute(alloc: Global, attr: &str) -> Executed
         ensures { IfOk result (λ done. done ≡ spec.done (Some (NoAttribute attr.now)) false) }
     {
-        Ok(Done::failure(Note::NoAttribute(Text::from_str(alloc, attr)?)))
+        Ok(Done::noted(Note::NoAttribute(Text::from_str(alloc, attr)?)))
     }
 
     /// The failure where there is an attribute of the new name.
     pub fn attribute_exists(alloc: Global, attr: &str) -> Executed
         ensures { IfOk result (λ done. done ≡ spec.done (Some (AttributeExists attr.now)) false) }
     {
-        Ok(Done::failure(Note::AttributeExists(Text::from_str(alloc, attr)?)))
+        Ok(Done::noted(Note::AttributeExists(Text::from_str(alloc, attr)?)))
     }
 
     /// The failure where the attribute has no list part.
     pub fn not_a_list(alloc: Global, attr: &str) -> Executed
         ensures { IfOk result (λ done. done ≡ spec.done (Some (NotAList attr.now)) false) }
     {
-        Ok(Done::failure(Note::NotAList(Text::from_str(alloc, attr)?)))
+        Ok(Done::noted(Note::NotAList(Text::from_str(alloc, attr)?)))
     }
 
     /// The failure where no element of the attribute equals the value.
@@ -84,6 +85,6 @@ impl Done {
     {
         let attr = Text::from_str(alloc, attr)?;
         let value = Text::from_str(alloc, value)?;
-        Ok(Done::failure(Note::NoValue { attr, value }))
+        Ok(Done::noted(Note::NoValue { attr, value }))
     }
 }

@@ -16,6 +16,7 @@ use Rattle.bz_label.specs.Labels.{Package}
 use Rattle.bz_label.specs.Values.{quoted}
 use Rattle.bz_label.specs.declared.arguments.Moved.TheVariants.{Values}
 use Rattle.bz_rule.specs.Add.{add, adds, new_elements}
+use Rattle.bz_rule.proofs.Adds.{add_is as added_by_value}
 use Rattle.bz_attribute.specs.Effects.{is_chosen, not_a_list, string}
 use Rattle.bz_canonical.specs.Added.{AddsToLines, IsNew, IsPresent}
 use Rattle.bz_canonical.specs.Canonical.{argument_lines, read_alone}
@@ -50,7 +51,7 @@ news_are home value es equal is = new_if value (list_any (is_chosen home (Values
 add_is : (home : Package) (attr value word : List ℕ) (notes : List (List ℕ)) (es : List Element) (suffix : Option (List ℕ)) → bytes_eq attr word ≡ true → false ≡ have_word home value es
     → add home attr (value ∷ []) (list_arg notes word es suffix ∷ []) ≡ list_arg notes word (es ++ new_element value ∷ []) suffix ∷ []
 add_is home attr value word notes es suffix named none =
-    rw named (
+    added_by_value home attr (value ∷ []) (list_arg notes word es suffix ∷ []) ∙ rw named (
     ap (λ ss. record { before = notes; nodes = leaf Identifier word ∷ leaf Operator (codes "=") ∷ group ListKind (segs_of (segments (element_segs es) ++ ss)) false [] ∷ []; suffix = suffix } ∷ []) (news_are home value es false none)
     ∙ ap (λ ss. record { before = notes; nodes = leaf Identifier word ∷ leaf Operator (codes "=") ∷ group ListKind ss false [] ∷ []; suffix = suffix } ∷ []) (with_new value es)
     )

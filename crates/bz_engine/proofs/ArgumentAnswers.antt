@@ -18,7 +18,9 @@ use Rattle.bz_attribute.specs.declared.done.Note.TheVariants.{NoAttribute}
 use Rattle.bz_attribute.proofs.EditedAt.{with_args_at}
 use Rattle.bz_attribute.proofs.Locals.{is_there}
 use Rattle.bz_attribute.specs.Lists.{equals, parts}
+use Rattle.bz_rule.specs.Add.{add}
 use Rattle.bz_rule.specs.Replace.{is_replaced, replaces_in}
+use Rattle.bz_rule.proofs.Adds.{add_is}
 use Rattle.bz_attribute.specs.RowPlaces.{LooksAt}
 use Rattle.bz_attribute.specs.Rules.{Rule, first_named, is_named, is_text, rule_of, string_value, value}
 use Rattle.std.specs.List.{list_any}
@@ -44,7 +46,9 @@ use Rattle.bz_token.specs.Common.{is_empty, map_or}
 
 -- what is added where none has the name
 pub adds_list : (attr value lines : List ℕ) → lines ≡ argument_lines (list_argument attr value ∷ []) → AddsArgument (Add attr (value ∷ [])) lines
-adds_list attr value lines lines_are = λ home. record { told = refl; goes = λ none. none; lines_are = lines_are }
+adds_list attr value lines lines_are = λ home.
+    let is : add home attr (value ∷ []) [] ≡ list_argument attr value ∷ [] = add_is home attr (value ∷ []) [] in
+    record { told = refl; goes = λ none. absurd (false≢true (sym (ap is_empty is) ∙ none)); lines_are = lines_are ∙ ap argument_lines (sym is) }
 
 -- where no argument is left, there are no lines
 no_lines : (args : List Segment) (lines : List ℕ) → lines ≡ argument_lines args → is_empty args ≡ true → is_empty lines ≡ true

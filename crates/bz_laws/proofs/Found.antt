@@ -12,7 +12,8 @@ use Rattle.bz_attribute.specs.Rules.{is_named, is_text, first_named, value}
 use Rattle.bz_attribute.specs.Lists.{is_attribute, parts, same, with_value}
 use Rattle.bz_attribute.specs.ListWalk.{edit_first_part}
 use Rattle.bz_attribute.specs.Effects.{chooses, has, is_chosen, not_a_list, string}
-use Rattle.bz_rule.specs.Add.{add, fresh, is_fresh, new_elements, with_added}
+use Rattle.bz_rule.specs.Add.{add, add_by_value, fresh, is_fresh, new_elements, with_added}
+use Rattle.bz_rule.proofs.Adds.{add_is}
 use Rattle.bz_attribute.specs.declared.done.Note.TheVariants.{NotAList}
 use Rattle.bz_attribute.proofs.Views.{segments_of}
 use Rattle.bz_rule.proofs.PartLaws.{edit_head}
@@ -132,7 +133,8 @@ first_added home attr values (Some a) = with_added home values a
 
 pub first_after_add : (home : Package) (attr : List ℕ) (values : List (List ℕ)) (args : List Segment) → first_named attr (add home attr values args) ≡ Some (first_added home attr values (first_named attr args))
 first_after_add home attr values args =
-    elim (first_named attr args) as (λ o. first_named attr args ≡ o → first_named attr (add home attr values args) ≡ Some (first_added home attr values o)) [
+    ap (first_named attr) (add_is home attr values args)
+    ∙ elim (first_named attr args) as (λ o. first_named attr args ≡ o → first_named attr (add_by_value home attr values args) ≡ Some (first_added home attr values o)) [
       | None ↦ λ e.
           let absent : has attr args ≡ false = has_first attr args ∙ ap is_some e in
           rw absent (first_at_end attr args (new_argument home attr values) e (new_named home attr values))

@@ -18,6 +18,8 @@ use Rattle.bz_attribute.specs.Lists.{edit_parts, is_attribute, with_value, parts
 use Rattle.bz_attribute.specs.ListWalk.{edit_first_part}
 use Rattle.bz_attribute.specs.Effects.{argument, edit_first, filtered, has, loses_all, unchosen}
 use Rattle.bz_rule.specs.Add.{add, new_elements, with_added}
+use Rattle.bz_rule.proofs.Adds.{add_is}
+use Rattle.bz_rule.proofs.Moves.{move_is}
 use Rattle.bz_rule.specs.Move.{move, move_note, moves, put_in}
 use Rattle.bz_rule.specs.Remove.{goes_with_all, remove}
 use Rattle.bz_rule.specs.Set.{New, is_value, new_of, new_value, set, set_if_absent, set_in}
@@ -137,7 +139,8 @@ filter_leaves c p goes (a ∷ args) =
 pub add_leaves : (home : Package) (attr : List ℕ) (values : List (List ℕ)) → Leaves (Add attr values) (add home attr values)
 add_leaves home attr values args =
     let c = Add attr values in
-    either_leaves c (has attr args) args _ _ (one_edited c attr (same_bytes attr) (with_added home values) named args) (one_added c attr (same_bytes attr) _ args)
+    ap (unmentioned c) (add_is home attr values args)
+    ∙ either_leaves c (has attr args) args _ _ (one_edited c attr (same_bytes attr) (with_added home values) named args) (one_added c attr (same_bytes attr) _ args)
   where
     named : (a : Segment) → is_named attr a ≡ true → is_named attr (with_added home values a) ≡ true
     named a h = either_way (λ (z : Segment). is_named attr z ≡ true) (is_empty (parts (value a))) h (named_with attr (edit_first_part (λ ss. ss ++ new_elements home (parts (value a)) values) (value a)) a h)
@@ -192,7 +195,8 @@ move_leaves home old new chosen args =
     let second : bytes_eq old new || bytes_eq new new ≡ true = or_right (bytes_eq old new) (bytes_eq new new) (same_bytes new) in
     let f = unchosen home chosen in
     let left = edit_first (is_named old) (filtered f) args in
-    either_leaves c (is_some (move_note old new args)) args _ _ refl
+    ap (unmentioned c) (move_is home old new chosen args)
+    ∙ either_leaves c (is_some (move_note old new args)) args _ _ refl
     (either_leaves c (moves home old chosen args) args _ _ (put_in_leaves c new second _ left ∙ first_edited c old first (filtered f) (filtered_goes c old first f) args) refl)
 
 -- `delete` alone leaves nothing

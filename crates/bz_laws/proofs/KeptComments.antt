@@ -7,6 +7,7 @@ use Rattle.bz_label.specs.declared.arguments.Attributes.{Attributes}
 use Rattle.bz_label.specs.declared.arguments.Attributes.TheVariants.{Every, Named}
 use Rattle.bz_label.specs.declared.arguments.Moved.{Moved}
 use Rattle.bz_rule.specs.Add.{add, new_elements, with_added}
+use Rattle.bz_rule.proofs.Adds.{add_is}
 use Rattle.bz_attribute.specs.Effects.{argument, edit_first, filtered, has, list_item, loses_all, unchosen}
 use Rattle.bz_attribute.specs.Lists.{edit_parts, is_attribute, parts, with_value}
 use Rattle.bz_rule.specs.Rename.{rename, rename_note, rename_to}
@@ -37,8 +38,9 @@ seen_or_new attr g new same args =
 -- command by command
 
 pub add_keeps : (home : Package) (attr : List ℕ) (values : List (List ℕ)) (args : List Segment) → map own_comments (add home attr values args) ≡ map own_comments args ++ (if has attr args then [] else no_comments ∷ [])
-add_keeps home attr values args = seen_or_new attr (with_added home values) (list_item (new_elements home [] values) ∷ []) (λ a.
-    either_way (λ (z : Segment). own_comments z ≡ own_comments a) (is_empty (parts (value a))) refl refl) args
+add_keeps home attr values args =
+    ap (map own_comments) (add_is home attr values args)
+    ∙ seen_or_new attr (with_added home values) (list_item (new_elements home [] values) ∷ []) (λ a. either_way (λ (z : Segment). own_comments z ≡ own_comments a) (is_empty (parts (value a))) refl refl) args
 
 pub set_keeps : (attr : List ℕ) (words : List (List ℕ)) (args : List Segment) → map own_comments (set attr words args) ≡ map own_comments args ++ (if has attr args then [] else no_comments ∷ [])
 set_keeps attr words args = seen_or_new attr (set_in (new_of attr words (first_named attr args))) (new_value (new_of attr words (first_named attr args))) (λ a.

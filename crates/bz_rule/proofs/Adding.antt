@@ -1,5 +1,5 @@
 -- What `add` writes, value by value, and what it makes of a rule.
-use Rattle.std.proofs.Common.{◌≡◌, ℕ, ◌+◌, ◌-◌, ◌<◌, ◌≤◌, List, [], ◌∷◌, ◌++◌, Bool, true, false, not, if◌then◌else◌, Option, Some, None, length, get_or, map, take, drop, refl, ap, sym, ◌∙◌, arith, append_assoc, append-nil, length-append, take-add}
+use Rattle.std.proofs.Common.{◌≡◌, ℕ, ◌+◌, ◌-◌, ◌<◌, ◌≤◌, List, [], ◌∷◌, ◌++◌, Bool, true, false, not, if◌then◌else◌, Option, Some, None, length, get_or, map, take, drop, refl, ap, sym, ◌∙◌, subst, arith, append_assoc, append-nil, length-append, take-add}
 use Rattle.std.specs.Prelude.{codes, option_to_list}
 use Rattle.std.proofs.lemmas.List.{drop_all, drop_more, map-append, take_more}
 use Rattle.bz_token.specs.declared.token.Kind.TheVariants.{Identifier, Operator}
@@ -9,7 +9,8 @@ use Rattle.bz_tree.specs.Tree.{Item, Segment, Statement, items_of, segs_of}
 use Rattle.bz_label.specs.Labels.{Package}
 use Rattle.bz_label.specs.LabelSetViews.{Gains, has as holds_label}
 use Rattle.bz_label.specs.declared.label_set.LabelSet.{LabelSet}
-use Rattle.bz_rule.specs.Add.{add, adds, fresh, is_fresh, new_elements, with_added}
+use Rattle.bz_rule.specs.Add.{add, add_by_value, adds, fresh, is_fresh, new_elements, with_added}
+use Rattle.bz_rule.proofs.Adds.{by_value_is}
 use Rattle.bz_attribute.specs.Effects.{argument, done, edit_first, has, list_item, not_a_list, string, with_args}
 use Rattle.bz_attribute.specs.Elements.{AreElementsTo, AreLists, IsListIn, IsValueAt}
 use Rattle.bz_attribute.specs.Lists.{parts, same, with_value}
@@ -144,14 +145,16 @@ put_there name edit f elements s r ps new place list end h v l e made edits writ
 pub added_new : (home : Package) (attr : List ℕ) (values : List (List ℕ)) (s : Statement) (r : Rule) (ps new : List RowPart) (place : Place) → has attr r.args ≡ false → IsPlaceOf attr s r ps place.from place.to
     → new ≡ segs_parts (segs_of (argument attr (list_item (new_elements home [] values) ∷ []) ∷ [])) → replaced_at place new ps ≡ parts_of (with_args (add home attr values) s)
 added_new home attr values s r ps new place none at written =
-    put_new attr (add home attr values) s r ps new place (put_local attr (λ a. with_added home values a ∷ []) (argument attr (list_item (new_elements home [] values) ∷ []) ∷ [])) none at written
+    subst (λ (f : List Segment → List Segment). replaced_at place new ps ≡ parts_of (with_args f s)) (by_value_is home attr values)
+    (put_new attr (add_by_value home attr values) s r ps new place (put_local attr (λ a. with_added home values a ∷ []) (argument attr (list_item (new_elements home [] values) ∷ []) ∷ [])) none at written)
 
 pub added_there : (home : Package) (attr : List ℕ) (values : List (List ℕ)) (s : Statement) (r : Rule) (ps new : List RowPart) (place list end : ℕ) → IsRuleRow s r ps → (v : IsValueAt attr s r ps place) → (l : IsListIn true (value v.arg) v.after ps place list)
     → AreElementsTo l.list ps list end → new ≡ segs_parts (segs_of (new_elements home (parts (value v.arg)) values)) → replaced_at (record { from = end; to = end }) new ps ≡ parts_of (with_args (add home attr values) s)
 added_there home attr values s r ps new place list end h v l e written =
     let edit : Segment → List Segment = λ a. with_added home values a ∷ [] in
     let some : is_empty (parts (value v.arg)) ≡ false = ap is_empty l.lists in
-    put_there attr edit (add home attr values) (new_elements home (parts (value v.arg)) values) s r ps new place list end h v l e (rw some refl) (λ there. rw there refl) written
+    subst (λ (f : List Segment → List Segment). replaced_at (record { from = end; to = end }) new ps ≡ parts_of (with_args f s)) (by_value_is home attr values)
+    (put_there attr edit (add_by_value home attr values) (new_elements home (parts (value v.arg)) values) s r ps new place list end h v l e (rw some refl) (λ there. rw there refl) written)
 
 pub lists_there : (ps : List RowPart) (nodes : List Item) (after : List RowPart) (place list : ℕ) → IsListIn true nodes after ps place list → AreLists ps (Some list) (parts nodes)
 lists_there ps nodes after place list l = record { rest = l.list; after = after; read = l.read; are = l.lists }

@@ -30,7 +30,7 @@ with_comments edit a = record a { before = (edit (own_comments a)).before; suffi
 
 -- The command edits the comments of the first argument of the name; without one it tells that. Only the last field needs a thought.
 pub record EditsComments (c : Command) (home : Package) (attr : List ℕ) (changes : Comments → Bool) (edit : Comments → Comments) : Type 0 where
-  pub after : (args : List Segment) → args_after c home args ≡ (if has attr args then edit_first (is_named attr) (λ a. with_comments edit a ∷ []) args else args)
+  pub after : (args : List Segment) → args_after c home args ≡ edit_first (is_named attr) (λ a. with_comments edit a ∷ []) args
   pub told : (args : List Segment) → args_done c home args ≡ done (is_absent attr args) (map_or false (λ a. changes (own_comments a)) (first_named attr args))
   pub local : IfSome (one_attribute c) (Local c home)
   pub changed : ChangesComments changes edit
@@ -59,13 +59,13 @@ comments_edits c home attr changes edit law =
     record {
       after = λ args.
           let new : List Segment = edit_first (is_named attr) (λ a. with_comments edit a ∷ []) args in
-          law.after args ∙ elim (has attr args) as (λ b. (if b then new else args) ≡ (if is_some (if b then None else Some (NoAttribute attr)) then args else new)) [ true ↦ refl | false ↦ refl ];
+          law.after args ∙ sym (either_edit attr (λ a. with_comments edit a ∷ []) args) ∙ elim (has attr args) as (λ b. (if b then new else args) ≡ (if is_some (if b then None else Some (NoAttribute attr)) then args else new)) [ true ↦ refl | false ↦ refl ];
       told = law.told;
       local = law.local;
       stays = λ args h. first_stays attr (λ a. changes (own_comments a)) (λ a. with_comments edit a ∷ []) (λ a k. ap (λ (z : Segment). z ∷ []) (comments_same edit a (one.stays (own_comments a) k))) args h;
       differs = λ read args quiet changed same.
           first_differs attr (λ a. changes (own_comments a)) (λ a. with_comments edit a ∷ []) (λ a named k is. let kept : with_comments edit a ≡ a = cc in one.differs (own_comments a) k (ap own_comments kept)) args changed
-          (sym (either_edit attr (λ a. with_comments edit a ∷ []) args) ∙ sym (law.after args) ∙ same);
+          (sym (law.after args) ∙ same);
     }
 
 -- of a rule

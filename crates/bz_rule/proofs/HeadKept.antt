@@ -11,7 +11,8 @@ use Rattle.bz_label.specs.declared.arguments.Setting.TheVariants.{ToKind, ToValu
 use Rattle.bz_attribute.specs.Rules.{Rule, rule_of, first_named, is_named, is_text, name_in, name_of, value, string_value}
 use Rattle.bz_attribute.specs.Lists.{edit_parts, equals, parts, with_value}
 use Rattle.bz_attribute.specs.ListWalk.{edit_first_part, edit_element}
-use Rattle.bz_rule.specs.Add.{add, new_elements, with_added}
+use Rattle.bz_rule.specs.Add.{add, add_by_value, new_elements, with_added}
+use Rattle.bz_rule.proofs.Adds.{by_value_is}
 use Rattle.bz_rule.specs.Comment.{comment_attribute, comment_element, comment_line, comment_note, comment_rule, comment_value}
 use Rattle.bz_attribute.specs.Effects.{argument, edit_first, filtered, has, list_item, loses_all, unchosen, with_args, with_comment}
 use Rattle.bz_attribute.specs.Heads.{HasHead}
@@ -108,12 +109,15 @@ set_to n attr words was a h is =
 
 -- each command on one attribute
 no_add : (home : Package) (n attr : List ℕ) (values : List (List ℕ)) → bytes_eq attr n ≡ false → MakesNo n attr (add home attr values)
-no_add home n attr values h = record {
-  absent = new_one n attr h;
-  there = λ a e.
-      ap (λ (b : Bool). has n (if b then edit_first (is_named attr) (λ x. with_added home values x ∷ []) (a ∷ []) else (a ∷ []) ++ argument attr (list_item (new_elements home [] values) ∷ []) ∷ [])) (ap (λ (b : Bool). b || false) e)
-      ∙ edited n attr (λ x. with_added home values x ∷ []) a e (added home n attr values a h e);
-}
+no_add home n attr values h = subst (MakesNo n attr) (by_value_is home attr values) by_value
+  where
+    by_value : MakesNo n attr (add_by_value home attr values)
+    by_value = record {
+      absent = new_one n attr h;
+      there = λ a e.
+          ap (λ (b : Bool). has n (if b then edit_first (is_named attr) (λ x. with_added home values x ∷ []) (a ∷ []) else (a ∷ []) ++ argument attr (list_item (new_elements home [] values) ∷ []) ∷ [])) (ap (λ (b : Bool). b || false) e)
+          ∙ edited n attr (λ x. with_added home values x ∷ []) a e (added home n attr values a h e);
+    }
 
 no_less : (home : Package) (n attr : List ℕ) (values : List (List ℕ)) → bytes_eq attr n ≡ false → MakesNo n attr (λ x0. edit_first (is_named attr) (filtered (unchosen home (Values values))) x0)
 no_less home n attr values h = record {
@@ -146,9 +150,7 @@ no_replace home n attr old new h = record {
 no_comment : (n attr text : List ℕ) → bytes_eq attr n ≡ false → MakesNo n attr (comment_attribute attr text)
 no_comment n attr text h = record {
   absent = refl;
-  there = λ a e.
-      ap (λ (b : Bool). has n (if b then edit_first (is_named attr) (λ x. with_comment (comment_line text) x ∷ []) (a ∷ []) else a ∷ [])) (ap (λ (b : Bool). b || false) e)
-      ∙ edited n attr (λ x. with_comment (comment_line text) x ∷ []) a e (same_name n attr a (with_comment (comment_line text) a) h e refl);
+  there = λ a e. edited n attr (λ x. with_comment (comment_line text) x ∷ []) a e (same_name n attr a (with_comment (comment_line text) a) h e refl);
 }
 
 no_comment_value : (home : Package) (n attr v text : List ℕ) → bytes_eq attr n ≡ false → MakesNo n attr (comment_value home attr v text)

@@ -17,7 +17,7 @@ use Rattle.bz_rule.specs.Commands.{Command, is_command, after, args_changed, arg
 use Rattle.bz_rule.specs.declared.command.Action.{Action}
 use Rattle.bz_attribute.specs.declared.done.Done.{Done}
 use Rattle.bz_attribute.specs.declared.done.Note.{Note}
-use Rattle.bz_attribute.specs.Effects.{done, fails, holds_rule, slot_done}
+use Rattle.bz_attribute.specs.Effects.{done, holds_rule, slot_done}
 use Rattle.bz_attribute.specs.Rules.{Rule, kind_text, rule_of}
 use Rattle.bz_label.specs.declared.arguments.Setting.TheVariants.{ToKind, ToValues}
 use Rattle.bz_label.specs.declared.arguments.Commented.TheVariants.{Rule as OfRule, Attribute, Value}
@@ -61,13 +61,9 @@ noted_stays c home slot h = let law = lawful c home in law.stays slot (law.noted
 pub no_rule_stays : (c : Command) (home : Package) (slot : Option Statement) → holds_rule slot ≡ false → after c home slot ≡ slot
 no_rule_stays c home slot h = let law = lawful c home in law.stays slot (law.no_rule slot h)
 
-fails_noted : (n : Option Note) → fails n ≡ true → is_some n ≡ true
-fails_noted None h = h
-fails_noted (Some n) h = refl
-
--- after a note with which nothing was done
-pub failure_stays : (c : Command) (home : Package) (slot new : Option Statement) (d : Done) → new ≡ after c home slot → d ≡ done_of c home slot → fails d.note ≡ true → new ≡ slot
-failure_stays c home slot new d is told h = is ∙ noted_stays c home slot (fails_noted (done_of c home slot).note (ap (λ (z : Done). fails z.note) (sym told) ∙ h))
+-- the same, by what is told
+pub told_note_stays : (c : Command) (home : Package) (slot new : Option Statement) (d : Done) → new ≡ after c home slot → d ≡ done_of c home slot → is_some d.note ≡ true → new ≡ slot
+told_note_stays c home slot new d is told h = is ∙ noted_stays c home slot (ap (λ (z : Done). is_some z.note) (sym told) ∙ h)
 
 -- where nothing is told to change, all stays
 pub unchanged_stays : (c : Command) (home : Package) (slot : Option Statement) (d : Done) → d ≡ done_of c home slot → d.changed ≡ false → slot ≡ after c home slot

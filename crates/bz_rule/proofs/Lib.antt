@@ -1,4 +1,5 @@
 pub mod Adding
+pub mod Adds
 pub mod Arguments
 pub mod Arriving
 mod Below
@@ -17,6 +18,7 @@ pub mod Lawfulness
 mod Local
 pub mod Meanings
 pub mod MovedRules
+pub mod Moves
 pub mod NamedArgument
 pub mod NotSeen
 pub mod OneValue

@@ -1,16 +1,18 @@
 -- Edits that look at the first argument of a name alone.
-use Rattle.std.proofs.Common.{◌≡◌, ℕ, List, [], ◌∷◌, ◌++◌, Bool, true, false, if◌then◌else◌, Option, Some, None, is_some, refl, ap, sym, ◌∙◌, append-nil}
+use Rattle.std.proofs.Common.{◌≡◌, ℕ, List, [], ◌∷◌, ◌++◌, Bool, true, false, if◌then◌else◌, Option, Some, None, is_some, refl, ap, sym, ◌∙◌, subst, append-nil}
 use Rattle.bz_tree.specs.Tree.{Segment}
 use Rattle.bz_label.specs.Labels.{Package}
 use Rattle.bz_attribute.specs.Rules.{first_named, is_named}
 use Rattle.bz_attribute.specs.Effects.{argument, edit_first, list_item, not_a_list, with_comment}
-use Rattle.bz_rule.specs.Add.{add, new_elements, with_added}
+use Rattle.bz_rule.specs.Add.{add, add_by_value, new_elements, with_added}
+use Rattle.bz_rule.proofs.Adds.{by_value_is}
 use Rattle.bz_rule.specs.Comment.{comment_attribute, comment_element, comment_line, comment_note, comment_value, is_missing}
 use Rattle.bz_attribute.specs.RowPlaces.{IsLocal, LooksAt}
 use Rattle.bz_rule.specs.Set.{new_of, new_value, set, set_in}
 use Rattle.bz_attribute.specs.declared.done.Note.{Note}
 use Rattle.bz_attribute.specs.declared.done.Note.TheVariants.{NoAttribute}
 use Rattle.bz_attribute.proofs.EditedAt.{none_first}
+use Rattle.bz_attribute.proofs.First.{edit_first_none}
 use Rattle.bz_attribute.proofs.Locals.{edit_same, edits_one, first_alone, is_there, kept_first, has_first}
 use Rattle.std.specs.Option.{option_or}
 
@@ -23,10 +25,11 @@ looks_at_one name f g by = record {
 -- each command on one attribute
 pub add_local : (home : Package) (attr : List ℕ) (values : List (List ℕ)) → IsLocal attr (add home attr values)
 add_local home attr values =
-    edits_one attr (add home attr values) (argument attr (list_item (new_elements home [] values) ∷ []) ∷ []) (λ a. with_added home values a ∷ [])
+    subst (IsLocal attr) (by_value_is home attr values)
+    (edits_one attr (add_by_value home attr values) (argument attr (list_item (new_elements home [] values) ∷ []) ∷ []) (λ a. with_added home values a ∷ [])
     (λ args h. rw h refl)
     (λ args a h. ap (λ (b : Bool). if b then edit_first (is_named attr) (λ x. with_added home values x ∷ []) args else args ++ argument attr (list_item (new_elements home [] values) ∷ []) ∷ []) (is_there attr args a h)
-    ∙ edit_same attr (λ x. with_added home values x ∷ []) (with_added home values a ∷ []) args a h refl)
+    ∙ edit_same attr (λ x. with_added home values x ∷ []) (with_added home values a ∷ []) args a h refl))
 
 pub set_local : (attr : List ℕ) (words : List (List ℕ)) → IsLocal attr (set attr words)
 set_local attr words =
@@ -42,8 +45,8 @@ pub comment_local : (attr text : List ℕ) → IsLocal attr (comment_attribute a
 comment_local attr text =
     let edit : Segment → List Segment = λ a. with_comment (comment_line text) a ∷ [] in
     edits_one attr (comment_attribute attr text) [] edit
-    (λ args h. ap (λ (b : Bool). if b then edit_first (is_named attr) edit args else args) h ∙ sym (append-nil args))
-    (λ args a h. ap (λ (b : Bool). if b then edit_first (is_named attr) edit args else args) (is_there attr args a h) ∙ edit_same attr edit (edit a) args a h refl)
+    (λ args h. edit_first_none (is_named attr) edit args h ∙ sym (append-nil args))
+    (λ args a h. edit_same attr edit (edit a) args a h refl)
 
 -- the note of `comment ATTR VALUE`, by the argument
 abbrev pub note_of : Package → List ℕ → List ℕ → Option Segment → Option Note

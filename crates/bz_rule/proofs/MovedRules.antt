@@ -12,7 +12,9 @@ use Rattle.bz_attribute.specs.Elements.{AreLists, elements_left}
 use Rattle.bz_attribute.specs.Lists.{is_joint, is_plus, parts, with_value}
 use Rattle.bz_attribute.specs.ListWalk.{edit_first_part, edit_list, edit_one_from, is_part, parts_from}
 use Rattle.bz_attribute.proofs.ListPieces.{edit_first_part_is, parts_are}
-use Rattle.bz_rule.specs.Move.{arrivals, elements_of, move, move_note, moved, moves, put_in}
+use Rattle.bz_rule.specs.Move.{arrivals, elements_of, move, move_note, moves, put_in}
+use Rattle.bz_rule.specs.private.Steps.{moved}
+use Rattle.bz_rule.proofs.Moves.{move_is}
 use Rattle.bz_attribute.specs.RowEdits.{IsRowEdit, replaced_at}
 use Rattle.bz_attribute.specs.RowPlaces.{IsRuleRow}
 use Rattle.bz_attribute.specs.Rules.{Rule, elements, first_named, is_named, value}
@@ -149,6 +151,6 @@ with_no_note home old new chosen ps out e none h = record {
   within = h.within;
   parts = λ s r row c.
       h.parts s r row c
-      ∙ ap parts_of (with_args_at (λ x0. if moves home old chosen x0 then moved home old new chosen x0 else x0) (move home old new chosen) s r row.rule (sym (ap (λ (n : Option Note). if is_some n then r.args else if moves home old chosen r.args then moved home old new chosen r.args else r.args) (none s r row))));
+      ∙ ap parts_of (with_args_at (λ x0. if moves home old chosen x0 then moved home old new chosen x0 else x0) (move home old new chosen) s r row.rule (sym (move_is home old new chosen r.args ∙ ap (λ (n : Option Note). if is_some n then r.args else if moves home old chosen r.args then moved home old new chosen r.args else r.args) (none s r row))));
   done = λ s r row. h.done s r row ∙ sym (ap (λ (n : Option Note). done n (moves home old chosen r.args)) (none s r row));
 }

@@ -1,5 +1,5 @@
 -- The first argument of a name among the parts of its rule, also with one comment line more.
-use Rattle.std.proofs.Common.{◌≡◌, ℕ, List, [], ◌∷◌, ◌++◌, Bool, true, if◌then◌else◌, Option, Some, None, is_some, length, map, take, drop, ap, sym, ◌∙◌, arith, append_assoc, length-append}
+use Rattle.std.proofs.Common.{◌≡◌, ℕ, List, [], ◌∷◌, ◌++◌, true, Option, Some, None, is_some, length, map, take, drop, refl, ap, sym, ◌∙◌, arith, append_assoc, length-append}
 use Rattle.std.proofs.lemmas.List.{map-append}
 use Rattle.std.proofs.Math.Seq.{drop-append_seam, take-append_seam}
 use Rattle.bz_tree.specs.Tree.{Segment, Statement, items_of}
@@ -66,4 +66,4 @@ argument_commented text name s r ps at h is =
     let rest : List RowPart = items_parts (items_of p.arg.nodes) ++ (segment_end ∷ (beside_part p.arg.suffix ++ p.back)) in
     let moved : (p.front ++ map above p.arg.before) ++ above line ∷ rest ≡ with_argument p.front (with_comment line p.arg) p.back = rw (map-append above p.arg.before (line ∷ [])) (simp append_assoc) in
     (λ i. p.taken i ++ above line ∷ p.left i) ∙ moved ∙ sym (p.edited (with_comment line))
-    ∙ sym (ap parts_of (with_args_at (comment_attribute name text) edit s r h.rule (ap (λ (b : Bool). if b then edit r.args else r.args) p.there)))
+    ∙ sym (ap parts_of (with_args_at (comment_attribute name text) edit s r h.rule refl))

@@ -24,6 +24,7 @@ use Rattle.bz_rule.specs.Sealed.{NotSeen, SlotsSealed, attributes_of, both_empty
 use Rattle.bz_rule.specs.declared.command.Action.TheVariants.{Add, Comment, Delete, Move, Print, Remove, Rename, Replace, Set, SetIfAbsent}
 use Rattle.bz_rule.proofs.Lawfulness.{local, no_rule_stays}
 use Rattle.bz_rule.proofs.Lawful.{Local}
+use Rattle.bz_rule.proofs.Moves.{steps_are}
 use Rattle.bz_rule.proofs.SealedArguments.{LeavesSealed, Overlooks, all_left, either_left, first_left, first_overlooks, has_overlooks, local_leaves, local_overlooks, more_left, others_left, overlooks_by, seen_left, twice_left}
 use Rattle.bz_rule.proofs.SealedStatements.{both_deleted, both_hold, comment_left, kind_left, kind_told, prints_alike, slots_left, slots_told}
 
@@ -95,7 +96,7 @@ move_unseen like names home old new chosen h k =
     let leave = first_left like names old h (filtered (unchosen home chosen)) in
     let moved =
     seen_left both.arriving (λ ss args. put_in new ss (edit_first (is_named old) (filtered (unchosen home chosen)) args)) (λ ss. twice_left (put_leaves like names new k ss) leave) in
-    on_arguments (Move old new chosen) home (λ slot. refl) (λ slot. refl) (unless_noted both.note (either_left both.some moved (all_left like names)))
+    on_arguments (Move old new chosen) home (λ slot. refl) (λ slot. refl) (subst (LeavesSealed like names) (steps_are home old new chosen) (unless_noted both.note (either_left both.some moved (all_left like names))))
     (record { seen = λ count xs ys are. λ i. done (both.note.seen count xs ys are i) (both.some.seen count xs ys are i) })
 
 -- the one attribute, or the two, that a command mentions

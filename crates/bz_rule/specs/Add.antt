@@ -1,14 +1,24 @@
 -- What `add` does (buildozer README, edit commands; which values are left out is this project's own rule).
 -- Begin with `add`.
-use Rattle.std.specs.Prelude.{ℕ, List, [], ◌∷◌, ◌++◌, Bool, true, ◌||◌, not, if◌then◌else◌, Option, map}
+use Rattle.std.specs.Prelude.{ℕ, List, [], ◌∷◌, ◌++◌, Bool, true, ◌||◌, not, if◌then◌else◌, Option, is_some, map}
 use Rattle.std.specs.List.{list_any}
 use Rattle.bz_tree.specs.Tree.{Segment}
 use Rattle.bz_label.specs.Labels.{Package}
 use Rattle.bz_label.specs.declared.arguments.Moved.TheVariants.{Values}
-use Rattle.bz_attribute.specs.Rules.{is_named, value}
+use Rattle.bz_attribute.specs.Rules.{first_named, is_named, value}
 use Rattle.bz_attribute.specs.Lists.{with_value, parts, same}
-use Rattle.bz_attribute.specs.Effects.{has, edit_first, edit_part, is_chosen, string, list_item, argument}
+use Rattle.bz_attribute.specs.Effects.{has, edit_first, edit_part, is_chosen, string, list_item, argument, not_a_list}
+use Rattle.bz_rule.specs.Move.{arrivals, elements_of, put_in}
 use Rattle.bz_token.specs.Common.{is_empty, map_or}
+
+-- `add <attr> <v>..`: as new elements, the values arrive that no element of a list part equals, and no value
+-- before them. Nothing is added where it notes why.
+abbrev pub add : Package → List ℕ → List (List ℕ) → List Segment → List Segment
+add home attr values args =
+    if is_some (not_a_list attr (first_named attr args)) then args
+    else put_in attr (arrivals home (elements_of (first_named attr args)) (map string values)) args
+
+-- The same value by value, and whether it changes something.
 
 -- a value that no element of these list parts equals, and that no earlier value is the same as
 abbrev pub is_fresh : Package → List (List Segment) → List (List ℕ) → List ℕ → Bool
@@ -30,12 +40,10 @@ abbrev pub with_added : Package → List (List ℕ) → Segment → Segment
 with_added home values a = if is_empty (parts (value a)) then a else
     with_value (edit_part (λ ss. true) (λ ss. ss ++ new_elements home (parts (value a)) values) (value a)) a
 
--- `add <attr> <v>..`: in the first argument of the name, else in a new one
-abbrev pub add : Package → List ℕ → List (List ℕ) → List Segment → List Segment
-add home attr values args =
+abbrev pub add_by_value : Package → List ℕ → List (List ℕ) → List Segment → List Segment
+add_by_value home attr values args =
     if has attr args then edit_first (is_named attr) (λ a. with_added home values a ∷ []) args
     else args ++ argument attr (list_item (new_elements home [] values) ∷ []) ∷ []
 
--- whether it changes something
 abbrev pub adds : Package → List (List ℕ) → Option Segment → Bool
 adds home values arg = map_or true (λ a. not (is_empty (new_elements home (parts (value a)) values))) arg

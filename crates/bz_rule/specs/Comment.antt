@@ -8,7 +8,7 @@ use Rattle.bz_label.specs.declared.arguments.Commented.{Commented}
 use Rattle.bz_label.specs.declared.arguments.Commented.TheVariants.{Rule as OfRule, Attribute, Value}
 use Rattle.bz_attribute.specs.Rules.{rule_of, is_named, first_named, value}
 use Rattle.bz_attribute.specs.Lists.{with_value, parts, equals}
-use Rattle.bz_attribute.specs.Effects.{edit_first, has, is_absent, not_a_list, edit_part, with_comment}
+use Rattle.bz_attribute.specs.Effects.{edit_first, is_absent, not_a_list, edit_part, with_comment}
 use Rattle.bz_attribute.specs.declared.done.Note.{Note}
 use Rattle.bz_attribute.specs.declared.done.Note.TheVariants.{NoValue}
 use Rattle.bz_token.specs.Common.{map_or}
@@ -35,8 +35,7 @@ comment_rule text s = record s {
 
 -- `comment <attr> <text>`
 abbrev pub comment_attribute : List ℕ → List ℕ → List Segment → List Segment
-comment_attribute attr text args = if has attr args
-    then edit_first (is_named attr) (λ a. with_comment (comment_line text) a ∷ []) args else args
+comment_attribute attr text args = edit_first (is_named attr) (λ a. with_comment (comment_line text) a ∷ []) args
 
 -- an argument with the line above its first element of this value, in the first list part that has one
 abbrev pub comment_element : Package → List ℕ → List ℕ → Segment → Segment

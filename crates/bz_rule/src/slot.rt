@@ -1,6 +1,6 @@
 //! A command applied to what a slot holds, where statements are trees.
 
-ghost use Rattle.std.specs.Prelude.{◌≡◌, ◌↔◌, IfOk, IsOk, OnErr, OnOk, false, true};
+ghost use Rattle.std.specs.Prelude.{◌≡◌, ◌↔◌, IfOk, IsOk, OnErr, OnOk, false, is_some, true};
 ghost use Rattle.bz_tree.specs.View.{slot_view};
 ghost use Rattle.bz_attribute.specs.Effects as spec;
 ghost use Rattle.bz_rule.specs.Commands as commands;
@@ -25,7 +25,7 @@ pub fn apply<'a>(
     ensures slot { OnOk result (slot_view slot.new ≡ commands.after command.now home.now (slot_view slot.old)) }
     ensures done { IfOk result (λ done. done ≡ commands.done_of command.now home.now (slot_view slot.old)) }
     ensures changed { IfOk result (λ done. (done.changed ≡ true) ↔ (slot_view slot.new ≡ slot_view slot.old → ⊥)) }
-    ensures failed { IfOk result (λ done. spec.fails done.note ≡ true → slot_view slot.new ≡ slot_view slot.old) }
+    ensures noted { IfOk result (λ done. is_some done.note ≡ true → slot_view slot.new ≡ slot_view slot.old) }
     ensures no_rule { spec.holds_rule (slot_view slot.old) ≡ false → IsOk result }
     ensures err { OnErr result (slot_view slot.new ≡ slot_view slot.old) }
 {

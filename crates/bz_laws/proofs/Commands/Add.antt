@@ -1,5 +1,5 @@
 -- What `add` keeps: other arguments, what is well formed, texts that pass a test, and comments.
-use Rattle.std.proofs.Common.{◌≡◌, ℕ, List, [], ◌∷◌, ◌++◌, true, false, not, if◌then◌else◌, map, refl, Bool, length, suc, ◌==◌}
+use Rattle.std.proofs.Common.{◌≡◌, ℕ, List, [], ◌∷◌, ◌++◌, true, false, not, if◌then◌else◌, map, refl, ap, sym, subst, ◌∙◌, Bool, length, suc, ◌==◌}
 use Rattle.bz_tree.specs.Tree.{Segment}
 use Rattle.bz_label.specs.Labels.{Package}
 use Rattle.bz_attribute.specs.Rules.{is_named, value}
@@ -7,6 +7,7 @@ use Rattle.bz_attribute.specs.Lists.{is_attribute, parts, with_value}
 use Rattle.bz_attribute.specs.ListWalk.{edit_first_part}
 use Rattle.bz_attribute.specs.Effects.{has, list_item}
 use Rattle.bz_rule.specs.Add.{add, new_elements, with_added, fresh, is_fresh}
+use Rattle.bz_rule.proofs.Adds.{add_is}
 use Rattle.bz_rule.proofs.Arguments.{same_bytes}
 use Rattle.bz_rule.specs.declared.command.Action.TheVariants.{Add}
 use Rattle.bz_laws.proofs.KeptArguments.{add_leaves}
@@ -36,7 +37,9 @@ with_added_kept g home attr values leaves a named =
 
 add_aside : (g : Segment → Segment) → KeepsEach g → (home : Package) (attr : List ℕ) (values : List (List ℕ)) → Leaves attr g → (args : List Segment) → add home attr values (map g args) ≡ map g (add home attr values args)
 add_aside g names home attr values leaves args =
-    taken (map g) (has_kept g names attr args) (edit_one_kept g names attr leaves (with_added home values) (with_added_kept g home attr values leaves) args) (append_kept g attr leaves _ args)
+    add_is home attr values (map g args)
+    ∙ taken (map g) (has_kept g names attr args) (edit_one_kept g names attr leaves (with_added home values) (with_added_kept g home attr values leaves) args) (append_kept g attr leaves _ args)
+    ∙ ap (map g) (sym (add_is home attr values args))
 
 -- what it leaves is well formed, and passes a test
 
@@ -48,8 +51,9 @@ added_good depth home values a h good =
 
 add_good : (depth : ℕ) (home : Package) (attr : List ℕ) (values : List (List ℕ)) (args : List Segment) → is_text Identifier attr ≡ true → AreFormed IsArg (suc depth) args → AreFormed IsArg (suc depth) (add home attr values args)
 add_good depth home attr values args name h =
-    either_way (AreFormed IsArg (suc depth)) (has attr args) (first_good (suc depth) attr (λ a. with_added home values a ∷ []) (λ a n good. (added_good depth home values a n good, tt)) args h)
-    (all_appended (IsFormed IsArg (suc depth)) args _ h (argument_good (suc depth) attr (list_item (new_elements home [] values) ∷ []) name (list_value depth _ (strings_good depth (fresh home [] [] values))), tt))
+    subst (AreFormed IsArg (suc depth)) (sym (add_is home attr values args))
+    (either_way (AreFormed IsArg (suc depth)) (has attr args) (first_good (suc depth) attr (λ a. with_added home values a ∷ []) (λ a n good. (added_good depth home values a n good, tt)) args h)
+    (all_appended (IsFormed IsArg (suc depth)) args _ h (argument_good (suc depth) attr (list_item (new_elements home [] values) ∷ []) name (list_value depth _ (strings_good depth (fresh home [] [] values))), tt)))
 
 fresh_pass : (q : List ℕ → Bool) (home : Package) (lists : List (List Segment)) (earlier values : List (List ℕ)) → AllByRecursion (WordPasses q) values → AllByRecursion (WordPasses q) (fresh home lists earlier values)
 fresh_pass q home lists earlier [] h = tt
@@ -67,8 +71,9 @@ added_passes q w home values k a h =
 add_passes : (q : List ℕ → Bool) → PassesWritten q → (home : Package) (attr : List ℕ) (values : List (List ℕ)) (args : List Segment) → q attr ≡ true → AllByRecursion (WordPasses q) values → SegmentsPass q args
     → SegmentsPass q (add home attr values args)
 add_passes q w home attr values args name k h =
-    either_way (SegmentsPass q) (has attr args) (first_of_name_edited q attr (with_added home values) (added_passes q w home values k) args h)
-    (argument_added q w attr (list_item (new_elements home [] values) ∷ []) args name (list_passes q (new_elements home [] values) (new_elements_pass q w home [] values k)) h)
+    subst (SegmentsPass q) (sym (add_is home attr values args))
+    (either_way (SegmentsPass q) (has attr args) (first_of_name_edited q attr (with_added home values) (added_passes q w home values k) args h)
+    (argument_added q w attr (list_item (new_elements home [] values) ∷ []) args name (list_passes q (new_elements home [] values) (new_elements_pass q w home [] values k)) h))
 
 -- comments stay
 added_keeps : (home : Package) (values : List (List ℕ)) (a : Segment) → in_one (with_added home values a) ≡ in_one a
@@ -78,7 +83,8 @@ added_keeps home values a =
 
 add_leaves_all : (home : Package) (attr : List ℕ) (values : List (List ℕ)) (args : List Segment) → in_all (add home attr values args) ≡ in_all args
 add_leaves_all home attr values args =
-    either_way (λ (zs : List Segment). in_all zs ≡ in_all args) (has attr args) (first_keeps attr (with_added home values) (λ a h. added_keeps home values a) args)
+    ap in_all (add_is home attr values args)
+    ∙ either_way (λ (zs : List Segment). in_all zs ≡ in_all args) (has attr args) (first_keeps attr (with_added home values) (λ a h. added_keeps home values a) args)
     (after_new args attr (list_item (new_elements home [] values) ∷ []) (list_none (fresh home [] [] values)))
 
 pub add_keeping : (home : Package) (attr : List ℕ) (values : List (List ℕ)) → Keeps (Add attr values) home

@@ -1,5 +1,5 @@
 -- What `move` keeps: other arguments, what is well formed, and texts that pass a test.
-use Rattle.std.proofs.Common.{◌≡◌, ℕ, List, [], ◌∷◌, ◌++◌, Bool, true, false, filter, Option, Some, None, if◌then◌else◌, map, is_some, refl, ap, ◌∙◌, bytes_eq, suc}
+use Rattle.std.proofs.Common.{◌≡◌, ℕ, List, [], ◌∷◌, ◌++◌, Bool, true, false, filter, Option, Some, None, if◌then◌else◌, map, is_some, refl, ap, sym, subst, ◌∙◌, bytes_eq, suc}
 use Rattle.std.proofs.lemmas.Bool.{and_parts}
 use Rattle.bz_tree.specs.Tree.{Segment}
 use Rattle.bz_label.specs.Labels.{Package}
@@ -11,7 +11,9 @@ use Rattle.bz_attribute.specs.Rules.{first_named, is_named, value, string_value}
 use Rattle.bz_attribute.specs.Lists.{with_value, is_attribute, parts, equals}
 use Rattle.bz_attribute.specs.ListWalk.{edit_first_part}
 use Rattle.bz_attribute.specs.Effects.{edit_first, filtered, has, list_item, unchosen, is_chosen}
-use Rattle.bz_rule.specs.Move.{arrivals, elements_of, move, move_note, moved, moves, put_in}
+use Rattle.bz_rule.specs.Move.{arrivals, elements_of, move, move_note, moves, put_in}
+use Rattle.bz_rule.specs.private.Steps.{moved}
+use Rattle.bz_rule.proofs.Moves.{move_is}
 use Rattle.bz_rule.proofs.Arguments.{attribute_named}
 use Rattle.bz_laws.proofs.Commands.Remove.{filtered_kept}
 use Rattle.bz_label.specs.Names.{is_identifier}
@@ -57,8 +59,10 @@ note_move g names old new leaves_old leaves_new args = rw (has_kept g names old 
 move_aside : (g : Segment → Segment) → KeepsEach g → (home : Package) (old new : List ℕ) (chosen : Moved) → Leaves old g → Leaves new g → (args : List Segment)
     → move home old new chosen (map g args) ≡ map g (move home old new chosen args)
 move_aside g names home old new chosen leaves_old leaves_new args =
-    taken (map g) (ap is_some (note_move g names old new leaves_old leaves_new args)) refl
+    move_is home old new chosen (map g args)
+    ∙ taken (map g) (ap is_some (note_move g names old new leaves_old leaves_new args)) refl
     (taken (map g) (moves_kept g names home old chosen leaves_old args) (moved_kept g names home old new chosen leaves_old leaves_new args) refl)
+    ∙ ap (map g) (sym (move_is home old new chosen args))
 
 -- what it leaves is well formed, and passes a test
 
@@ -104,8 +108,9 @@ moved_formed depth home old new chosen args name h =
 
 move_formed : (depth : ℕ) (home : Package) (old new : List ℕ) (chosen : Moved) (args : List Segment) → is_text Identifier new ≡ true → AreFormed IsArg (suc depth) args → AreFormed IsArg (suc depth) (move home old new chosen args)
 move_formed depth home old new chosen args name h =
-    either_way (AreFormed IsArg (suc depth)) (is_some (move_note old new args)) h
-    (either_way (AreFormed IsArg (suc depth)) (moves home old chosen args) (moved_formed depth home old new chosen args name h) h)
+    subst (AreFormed IsArg (suc depth)) (sym (move_is home old new chosen args))
+    (either_way (AreFormed IsArg (suc depth)) (is_some (move_note old new args)) h
+    (either_way (AreFormed IsArg (suc depth)) (moves home old chosen args) (moved_formed depth home old new chosen args name h) h))
 
 -- elements that are moved
 joined_passes : (q : List ℕ → Bool) (lists : List (List Segment)) → AllByRecursion (SegmentsPass q) lists → SegmentsPass q (flat_map (λ ss. ss) lists)
@@ -135,8 +140,9 @@ moved_passes q w home old new chosen args name h =
 
 move_passes : (q : List ℕ → Bool) → PassesWritten q → (home : Package) (old new : List ℕ) (chosen : Moved) (args : List Segment) → q new ≡ true → SegmentsPass q args → SegmentsPass q (move home old new chosen args)
 move_passes q w home old new chosen args name h =
-    either_way (SegmentsPass q) (is_some (move_note old new args)) h
-    (either_way (SegmentsPass q) (moves home old chosen args) (moved_passes q w home old new chosen args name h) h)
+    subst (SegmentsPass q) (sym (move_is home old new chosen args))
+    (either_way (SegmentsPass q) (is_some (move_note old new args)) h
+    (either_way (SegmentsPass q) (moves home old chosen args) (moved_passes q w home old new chosen args name h) h))
 
 moved_to : (old new : List ℕ) (chosen : Moved) → is_command (Move old new chosen) ≡ true → is_identifier new ≡ true
 moved_to old new chosen h =

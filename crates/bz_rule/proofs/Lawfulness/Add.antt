@@ -7,10 +7,11 @@ use Rattle.bz_attribute.specs.Rules.{is_named, first_named, value}
 use Rattle.bz_attribute.specs.Lists.{is_attribute, parts, same, with_value}
 use Rattle.bz_attribute.specs.ListWalk.{edit_first_part}
 use Rattle.bz_attribute.specs.Effects.{argument, done, edit_first, has, list_item, not_a_list}
-use Rattle.bz_rule.specs.Add.{add, adds, new_elements, with_added}
+use Rattle.bz_rule.specs.Add.{add, add_by_value, adds, new_elements, with_added}
+use Rattle.bz_rule.proofs.Adds.{add_is, kept_by_value}
 use Rattle.bz_attribute.specs.declared.done.Note.TheVariants.{NotAList}
 use Rattle.bz_rule.proofs.PartLaws.{edit_head, first_part_stays, parts_first_edited}
-use Rattle.bz_rule.proofs.Arguments.{attribute_named, first_same, rest_same, value_back, value_put}
+use Rattle.bz_rule.proofs.Arguments.{attribute_named, first_same, value_back, value_put}
 use Rattle.bz_rule.specs.declared.command.Action.TheVariants.{Add}
 use Rattle.bz_rule.proofs.Local.{add_local, looks_at_one}
 use Rattle.bz_rule.proofs.Lawful.{Lawful, note_unchanged, on_arguments}
@@ -42,14 +43,7 @@ added_nothing home values a h =
     ]
 
 pub add_kept : (home : Package) (attr : List ℕ) (values : List (List ℕ)) (args : List Segment) (a : Segment) → first_named attr args ≡ Some a → with_added home values a ≡ a → add home attr values args ≡ args
-add_kept home attr values args a e h =
-    let there : has attr args ≡ true = has_first attr args ∙ ap is_some e in
-    rw there (rest_same attr (λ z. with_added home values z ∷ []) args (λ z first.
-    let is : z ≡ a = some_same (sym first ∙ e) in
-    ap (λ (y : Segment). with_added home values y ∷ []) is ∙ ap (λ (y : Segment). y ∷ []) (h ∙ sym is)))
-  where
-    some_same : {x y : Segment} → Some x ≡ Some y → x ≡ y
-    some_same h = cc
+add_kept home attr values args a e h = add_is home attr values args ∙ kept_by_value home attr values args a e h
 
 nothing_new : (ss : List Segment) → not (is_empty ss) ≡ false → ss ≡ []
 nothing_new [] h = refl
@@ -80,15 +74,16 @@ added_differs home values a h some told same =
 
 add_differs : (home : Package) (attr : List ℕ) (values : List (List ℕ)) (args : List Segment) → (done (not_a_list attr (first_named attr args)) (adds home values (first_named attr args))).changed ≡ true → add home attr values args ≡ args → ⊥
 add_differs home attr values args h same =
+    let made : add_by_value home attr values args ≡ args = sym (add_is home attr values args) ∙ same in
     elim (first_named attr args) as (λ o. first_named attr args ≡ o → (done (not_a_list attr o) (adds home values o)).changed ≡ true → ⊥) [
       | None ↦ λ e k.
           let absent : has attr args ≡ false = has_first attr args ∙ ap is_some e in
-          let longer : args ++ new_argument home attr values ∷ [] ≡ args = rw absent at same in
+          let longer : args ++ new_argument home attr values ∷ [] ≡ args = rw absent at made in
           let nothing : new_argument home attr values ∷ [] ≡ [] = append_cancel_left args (new_argument home attr values ∷ []) [] (longer ∙ sym (append-nil args)) in
           cc
       | Some a ↦ λ e k.
           let there : has attr args ≡ true = has_first attr args ∙ ap is_some e in
-          let kept : edit_first (is_named attr) (λ z. with_added home values z ∷ []) args ≡ args = rw there at same in
+          let kept : edit_first (is_named attr) (λ z. with_added home values z ∷ []) args ≡ args = rw there at made in
           let stays : with_added home values a ∷ [] ≡ a ∷ [] = first_same attr (λ z. with_added home values z ∷ []) args a e kept in
           let is : with_added home values a ≡ a = cc in
           let attribute : is_attribute a ≡ true = attribute_named attr a (is_first_named attr args a e) in

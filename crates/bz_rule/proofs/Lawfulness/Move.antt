@@ -12,7 +12,9 @@ use Rattle.bz_attribute.specs.Rules.{first_named, is_named, is_text as is_word, 
 use Rattle.bz_attribute.specs.Lists.{edit_parts, with_value}
 use Rattle.bz_attribute.specs.ListWalk.{edit_first_part}
 use Rattle.bz_attribute.specs.Effects.{argument, edit_first, filtered, has, list_item, loses_all, unchosen, is_chosen, chooses}
-use Rattle.bz_rule.specs.Move.{arrivals, elements_of, move, move_note, moved, moves, put_in}
+use Rattle.bz_rule.specs.Move.{arrivals, elements_of, move, move_note, moves, put_in}
+use Rattle.bz_rule.specs.private.Steps.{moved, moved_where}
+use Rattle.bz_rule.proofs.Moves.{move_is}
 use Rattle.bz_rule.proofs.Arguments.{attribute_named, name_put}
 use Rattle.bz_token.proofs.Classes.{same_bytes}
 use Rattle.std.proofs.lemmas.List.Elements.{filter-append}
@@ -102,7 +104,7 @@ first_chosen home old new chosen args (Some a) e other same =
 move_differs : (home : Package) (old new : List ℕ) (chosen : Moved) (args : List Segment) → bytes_eq old new ≡ false → move_note old new args ≡ None
     → moves home old chosen args ≡ true → move home old new chosen args ≡ args → ⊥
 move_differs home old new chosen args other noted some same =
-    let made : moved home old new chosen args ≡ args = rw (noted, some) at same in
+    let made : moved home old new chosen args ≡ args = rw (noted, some) at (sym (move_is home old new chosen args) ∙ same) in
     let clash : true ≡ false = sym some ∙ first_chosen home old new chosen args (first_named old args) refl other made in
     absurd cc
 
@@ -113,7 +115,7 @@ others old new chosen h =
 
 pub move_lawful : (home : Package) (old new : List ℕ) (chosen : Moved) → Lawful (Move old new chosen) home
 move_lawful home old new chosen = on_arguments (Move old new chosen) home (λ slot. refl) (λ slot. refl) (record {
-  stays = λ args h. guarded_same (move_note old new args) (moves home old chosen args) (if moves home old chosen args then moved home old new chosen args else args) args (λ k. rw k refl) h;
+  stays = λ args h. move_is home old new chosen args ∙ guarded_same (move_note old new args) (moves home old chosen args) (moved_where home old new chosen args) args (λ k. rw k refl) h;
   differs = λ read args h same.
       let told = done_changed (move_note old new args) (moves home old chosen args) h in
       move_differs home old new chosen args (others old new chosen read) told.0 told.1 same;

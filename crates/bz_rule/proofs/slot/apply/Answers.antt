@@ -3,7 +3,7 @@ use Rattle.std.specs.Prelude.{is_some}
 use Rattle.bz_attribute.specs.Effects.{holds_rule}
 use Rattle.bz_attribute.specs.Rules.{rule_of}
 use Rattle.bz_tree.specs.View.{nodes_view, slot_view}
-use Rattle.bz_rule.proofs.Lawfulness.{failure_stays, no_rule_stays, told_of_slot, unchanged_stays}
+use Rattle.bz_rule.proofs.Lawfulness.{told_note_stays, no_rule_stays, told_of_slot, unchanged_stays}
 use Rattle.bz_rule.proofs.RowEdited.{told_of_none}
 use Rattle.bz_rule.proofs.slot.apply.Goals as goal
 
@@ -24,8 +24,8 @@ pub returns-then-not-done-clause-slot : goal.returns-then-not-done-clause-slot
 returns-then-not-done-clause-slot c =
     sym (ap slot_view c.in-Some.is) ∙ unchanged_stays c.args.command.now c.args.home.now (slot_view c.args.slot.now) _ (returns-then-not-done-clause-done c) c.if-not-done.true
 
-pub returns-then-not-done-clause-failed : goal.returns-then-not-done-clause-failed
-returns-then-not-done-clause-failed c fails = sym (ap slot_view c.in-Some.is)
+pub returns-then-not-done-clause-noted : goal.returns-then-not-done-clause-noted
+returns-then-not-done-clause-noted c h = sym (ap slot_view c.in-Some.is)
 
 pub returns-then-not-done-clause-changed : goal.returns-then-not-done-clause-changed
 returns-then-not-done-clause-changed c =
@@ -37,9 +37,9 @@ returns-clause-slot c = search rules
 pub returns-clause-done : goal.returns-clause-done
 returns-clause-done c = search rules
 
-pub returns-clause-failed : goal.returns-clause-failed
-returns-clause-failed c =
-    failure_stays c.args.command.now c.args.home.now (slot_view c.args.slot.now) _ _ (returns-clause-slot c) (returns-clause-done c)
+pub returns-clause-noted : goal.returns-clause-noted
+returns-clause-noted c =
+    told_note_stays c.args.command.now c.args.home.now (slot_view c.args.slot.now) _ _ (returns-clause-slot c) (returns-clause-done c)
 
 pub returns-clause-changed : goal.returns-clause-changed
 returns-clause-changed c =

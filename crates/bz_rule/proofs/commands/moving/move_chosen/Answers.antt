@@ -3,7 +3,8 @@ use Rattle.bz_tree.specs.Rows.{part_view}
 use Rattle.bz_label.specs.declared.arguments.Moved.{Moved}
 use Rattle.bz_label.specs.declared.arguments.Moved.TheVariants.{All, Values}
 use Rattle.bz_attribute.specs.Effects.{done}
-use Rattle.bz_rule.specs.Move.{moved, moves}
+use Rattle.bz_rule.specs.Move.{moves}
+use Rattle.bz_rule.specs.private.Steps.{moved}
 use Rattle.bz_attribute.specs.RowEdits.{IsRowEdit}
 use Rattle.bz_rule.proofs.Meanings.{meant_chosen}
 use Rattle.bz_rule.proofs.WrittenParts.{ok_as}
