@@ -1,11 +1,13 @@
 -- The head of a rule, where a command edits another attribute than its name.
-use Rattle.std.proofs.Common.{◌≡◌, ◌∙◌, ℕ, List, [], ◌∷◌, ◌++◌, Bool, true, false, ◌||◌, if◌then◌else◌, Option, Some, None, is_some, map, option_map, refl, ap, sym, subst, option_and_then}
+use Rattle.std.proofs.Common.{◌≡◌, ◌∙◌, ℕ, List, [], ◌∷◌, ◌++◌, Bool, true, false, ◌||◌, not, drop, filter, if◌then◌else◌, Option, Some, None, is_some, map, option_map, refl, ap, sym, subst, option_and_then}
 use Rattle.std.specs.Prelude.{bytes_eq, codes}
 use Rattle.std.proofs.lemmas.Slice.Eq.{bytes_eq-Decides}
-use Rattle.bz_tree.specs.Tree.{Item, Segment, Statement}
+use Rattle.bz_token.specs.declared.token.Kind.TheVariants.{Identifier}
+use Rattle.bz_tree.specs.Tree.{Item, Segment, Statement, is_operator_item, leaf}
 use Rattle.bz_label.specs.Labels.{Package}
 use Rattle.bz_label.specs.declared.arguments.Attributes.TheVariants.{Named}
 use Rattle.bz_label.specs.declared.arguments.Commented.TheVariants.{Rule as Above, Attribute, Value}
+use Rattle.bz_label.specs.declared.arguments.Moved.{Moved}
 use Rattle.bz_label.specs.declared.arguments.Moved.TheVariants.{Values}
 use Rattle.bz_label.specs.declared.arguments.Setting.TheVariants.{ToKind, ToValues}
 use Rattle.bz_attribute.specs.Rules.{Rule, rule_of, first_named, is_named, is_text, name_in, name_of, value, string_value}
@@ -14,15 +16,17 @@ use Rattle.bz_attribute.specs.ListWalk.{edit_first_part, edit_element}
 use Rattle.bz_rule.specs.Add.{add, add_by_value, new_elements, with_added}
 use Rattle.bz_rule.proofs.Adds.{by_value_is}
 use Rattle.bz_rule.specs.Comment.{comment_attribute, comment_element, comment_line, comment_note, comment_rule, comment_value}
-use Rattle.bz_attribute.specs.Effects.{argument, edit_first, filtered, has, list_item, loses_all, unchosen, with_args, with_comment}
+use Rattle.bz_attribute.specs.Effects.{argument, edit_first, edit_part, filtered, has, is_chosen, list_item, loses_all, unchosen, with_args, with_comment}
 use Rattle.bz_attribute.specs.Heads.{HasHead}
 use Rattle.bz_attribute.specs.declared.head.Head.{Head}
+use Rattle.bz_rule.specs.Move.{arrivals, elements_of, move, move_note, moves, put_in}
+use Rattle.bz_rule.specs.Rename.{rename, rename_note, rename_to}
 use Rattle.bz_rule.specs.Replace.{replace, replaced, replaced_in}
 use Rattle.bz_attribute.specs.RowPlaces.{IsLocal}
 use Rattle.bz_rule.specs.Set.{is_value, new_of, new_value, set, set_if_absent, set_in}
 use Rattle.bz_attribute.proofs.EditedAt.{none_first}
 use Rattle.bz_rule.specs.Commands.{Command, args_after}
-use Rattle.bz_rule.specs.declared.command.Action.TheVariants.{Add, Comment, Delete, Print, Remove, Replace, Set, SetIfAbsent}
+use Rattle.bz_rule.specs.declared.command.Action.TheVariants.{Add, Comment, Delete, Move, Print, Remove, Rename, Replace, Set, SetIfAbsent}
 use Rattle.bz_rule.specs.OneAttribute.{one_attribute}
 use Rattle.bz_rule.specs.private.RowEdits.{KeepsHead, edits_arguments, rule_after}
 use Rattle.bz_rule.proofs.Arguments.{attribute_named, name_put}
@@ -53,13 +57,13 @@ first_behind n [] args h = refl
 first_behind n (x ∷ front) args h =
     elim (is_named n x) as (λ b. b || has n front ≡ false → (if b then Some x else first_named n (front ++ args)) ≡ first_named n args) [ true ↦ λ e. absurd cc | false ↦ λ e. first_behind n front args e ] h
 
-first_beside : (n attr : List ℕ) (new args : List Segment) → bytes_eq attr n ≡ false → has n new ≡ false → first_named n (edit_first (is_named attr) (λ x. new) args) ≡ first_named n args
-first_beside n attr new [] h none = refl
-first_beside n attr new (x ∷ args) h none =
-    elim (is_named attr x) as (λ b. is_named attr x ≡ b → first_named n (if b then new ++ args else x ∷ edit_first (is_named attr) (λ z. new) args) ≡ first_named n (x ∷ args)) [
-      | true ↦ λ e. first_behind n new args none ∙ sym (ap (λ (b : Bool). if b then Some x else first_named n args) (not_both attr n (name_of x.nodes) h e))
-      | false ↦ λ e. elim (is_named n x) as (λ b. (if b then Some x else first_named n (edit_first (is_named attr) (λ z. new) args)) ≡ (if b then Some x else first_named n args))
-          [ true ↦ refl | false ↦ first_beside n attr new args h none ]
+first_beside : (n attr : List ℕ) (f : Segment → List Segment) (args : List Segment) → bytes_eq attr n ≡ false → ((a : Segment) → is_named attr a ≡ true → has n (f a) ≡ false) → first_named n (edit_first (is_named attr) f args) ≡ first_named n args
+first_beside n attr f [] h none = refl
+first_beside n attr f (x ∷ args) h none =
+    elim (is_named attr x) as (λ b. is_named attr x ≡ b → first_named n (if b then f x ++ args else x ∷ edit_first (is_named attr) f args) ≡ first_named n (x ∷ args)) [
+      | true ↦ λ e. first_behind n (f x) args (none x e) ∙ sym (ap (λ (b : Bool). if b then Some x else first_named n args) (not_both attr n (name_of x.nodes) h e))
+      | false ↦ λ e. elim (is_named n x) as (λ b. (if b then Some x else first_named n (edit_first (is_named attr) f args)) ≡ (if b then Some x else first_named n args))
+          [ true ↦ refl | false ↦ first_beside n attr f args h none ]
     ] refl
 
 -- an edit of one attribute that makes none of a name
@@ -71,7 +75,7 @@ first_stays : (n attr : List ℕ) (f : List Segment → List Segment) → bytes_
 first_stays n attr f h law made args =
     elim (first_named attr args) as (λ o. first_named attr args ≡ o → first_named n (f args) ≡ first_named n args) [
       | None ↦ λ e. ap (first_named n) (law.absent args (has_first attr args ∙ ap is_some e)) ∙ first_before n args (f []) made.absent
-      | Some a ↦ λ e. ap (first_named n) (law.there args a e) ∙ first_beside n attr (f (a ∷ [])) args h (made.there a (is_first_named attr args a e))
+      | Some a ↦ λ e. ap (first_named n) (law.there args a e) ∙ first_beside n attr (λ x. f (a ∷ [])) args h (λ b is. made.there a (is_first_named attr args a e))
     ] refl
 
 -- one argument, of the same name
@@ -161,6 +165,41 @@ no_comment_value home n attr v text h = record {
       [ true ↦ stays n attr a h e | false ↦ edited n attr (λ x. comment_element home v text x ∷ []) a e (put n attr (edit_element (equals home v) (with_comment (comment_line text)) (value a)) a h e) ];
 }
 
+-- commands on all arguments of an attribute, or on two attributes
+renamed : (n new : List ℕ) (rest : List Item) → bytes_eq new n ≡ false → is_text n (name_of (leaf Identifier new ∷ rest)) || false ≡ false
+renamed n new [] h = refl
+renamed n new (y ∷ rest) h = elim (is_operator_item (codes "=") y) as (λ b. is_text n (if b then Some new else None) || false ≡ false) [ true ↦ new_one n new h | false ↦ refl ]
+
+beside_renamed : (n old new : List ℕ) (args : List Segment) → bytes_eq old n ≡ false → bytes_eq new n ≡ false → first_named n (rename old new args) ≡ first_named n args
+beside_renamed n old new args h g =
+    elim (is_some (rename_note old new args)) as (λ b. first_named n (if b then args else edit_first (is_named old) (λ a. rename_to new a ∷ []) args) ≡ first_named n args)
+    [ true ↦ refl | false ↦ first_beside n old (λ a. rename_to new a ∷ []) args h (λ a is. renamed n new (drop 1 a.nodes) g) ]
+
+beside_removed : (n attr : List ℕ) (args : List Segment) → bytes_eq attr n ≡ false → first_named n (filter (λ a. not (is_named attr a)) args) ≡ first_named n args
+beside_removed n attr [] h = refl
+beside_removed n attr (x ∷ args) h =
+    let rest : List Segment = filter (λ a. not (is_named attr a)) args in
+    elim (is_named attr x) as (λ b. is_named attr x ≡ b → first_named n (if not b then x ∷ rest else rest) ≡ first_named n (x ∷ args)) [
+      | true ↦ λ e. beside_removed n attr args h ∙ sym (ap (λ (b : Bool). if b then Some x else first_named n args) (not_both attr n (name_of x.nodes) h e))
+      | false ↦ λ e. elim (is_named n x) as (λ b. (if b then Some x else first_named n rest) ≡ (if b then Some x else first_named n args)) [ true ↦ refl | false ↦ beside_removed n attr args h ]
+    ] refl
+
+beside_put : (n new : List ℕ) (ss args : List Segment) → bytes_eq new n ≡ false → first_named n (put_in new ss args) ≡ first_named n args
+beside_put n new ss args h =
+    let nodes : Segment → List Item = λ a. edit_part (λ there. true) (λ there. there ++ ss) (value a) in
+    elim (has new args) as (λ b. first_named n (if b then edit_first (is_named new) (λ a. with_value (nodes a) a ∷ []) args else args ++ argument new (list_item ss ∷ []) ∷ []) ≡ first_named n args)
+    [ true ↦ first_beside n new (λ a. with_value (nodes a) a ∷ []) args h (λ a is. put n new (nodes a) a h is) | false ↦ first_before n args (argument new (list_item ss ∷ []) ∷ []) (new_one n new h) ]
+
+beside_moved : (home : Package) (n old new : List ℕ) (chosen : Moved) (args : List Segment) → bytes_eq old n ≡ false → bytes_eq new n ≡ false → first_named n (move home old new chosen args) ≡ first_named n args
+beside_moved home n old new chosen args h g =
+    let gone : List Segment = edit_first (is_named old) (filtered (unchosen home chosen)) args in
+    let came : List Segment = arrivals home (elements_of (first_named new args)) (filter (is_chosen home chosen) (elements_of (first_named old args))) in
+    elim (is_some (move_note old new args)) as (λ b. first_named n (if b then args else (if moves home old chosen args then put_in new came gone else args)) ≡ first_named n args) [
+      | true ↦ refl
+      | false ↦ elim (moves home old chosen args) as (λ b. first_named n (if b then put_in new came gone else args) ≡ first_named n args)
+          [ true ↦ beside_put n new came gone g ∙ first_beside n old (filtered (unchosen home chosen)) args h (λ a is. less home n old (unchosen home chosen) a h is) | false ↦ refl ]
+    ]
+
 -- the attribute of one is the one that was asked for
 of_it : (n name attr : List ℕ) (f : List Segment → List Segment) → Some name ≡ Some attr → bytes_eq attr n ≡ false → (bytes_eq name n ≡ false → MakesNo n name f) → MakesNo n attr f
 of_it n name attr f is h made = let same : name ≡ attr = cc in subst (λ (z : List ℕ). MakesNo n z f) same (made (ap (λ (z : List ℕ). bytes_eq z n) same ∙ h))
@@ -196,13 +235,26 @@ with_head f s same (Some head) has = record {
 name_kept : (c : Command) (home : Package) (attr : List ℕ) → one_attribute c ≡ Some attr → bytes_eq attr (codes "name") ≡ false → (args : List Segment) → first_named (codes "name") (args_after c home args) ≡ first_named (codes "name") args
 name_kept c home attr is h = first_stays (codes "name") attr (args_after c home) h (local c home attr is).args (makes_no c home attr (codes "name") is h)
 
-pub head_stays : (c : Command) (home : Package) (attr : List ℕ) (s : Statement) (r : Rule) → one_attribute c ≡ Some attr → bytes_eq attr (codes "name") ≡ false → rule_of s.nodes ≡ Some r → KeepsHead 0 s (rule_after c home s)
-head_stays c home attr s r is h rule = record {
-  head = λ head has.
-      subst (HasHead head) (sym (args_rule c home s (edits c attr is)))
-      (with_head (args_after c home) s (name_kept c home attr is h) head has);
+head_beside : (c : Command) (home : Package) (s : Statement) (r : Rule) → edits_arguments c ≡ true → ((args : List Segment) → first_named (codes "name") (args_after c home args) ≡ first_named (codes "name") args) → rule_of s.nodes ≡ Some r
+    → KeepsHead 0 s (rule_after c home s)
+head_beside c home s r is same rule = record {
+  head = λ head has. subst (HasHead head) (sym (args_rule c home s is)) (with_head (args_after c home) s same head has);
   more = none_above c home s r rule;
 }
+
+pub head_stays : (c : Command) (home : Package) (attr : List ℕ) (s : Statement) (r : Rule) → one_attribute c ≡ Some attr → bytes_eq attr (codes "name") ≡ false → rule_of s.nodes ≡ Some r → KeepsHead 0 s (rule_after c home s)
+head_stays c home attr s r is h rule = head_beside c home s r (edits c attr is) (name_kept c home attr is h) rule
+
+pub renamed_stays : (home : Package) (old new : List ℕ) (s : Statement) (r : Rule) → bytes_eq old (codes "name") ≡ false → bytes_eq new (codes "name") ≡ false → rule_of s.nodes ≡ Some r → KeepsHead 0 s (rule_after (Rename old new) home s)
+renamed_stays home old new s r h g rule = head_beside (Rename old new) home s r refl (λ args. beside_renamed (codes "name") old new args h g) rule
+
+pub moved_stays : (home : Package) (old new : List ℕ) (chosen : Moved) (s : Statement) (r : Rule) → bytes_eq old (codes "name") ≡ false → bytes_eq new (codes "name") ≡ false → rule_of s.nodes ≡ Some r
+    → KeepsHead 0 s (rule_after (Move old new chosen) home s)
+moved_stays home old new chosen s r h g rule = head_beside (Move old new chosen) home s r refl (λ args. beside_moved home (codes "name") old new chosen args h g) rule
+
+pub removed_stays : (home : Package) (attr : List ℕ) (values : List (List ℕ)) (s : Statement) (r : Rule) → bytes_eq attr (codes "name") ≡ false → rule_of s.nodes ≡ Some r → KeepsHead 0 s (rule_after (Remove (Named attr) values) home s)
+removed_stays home attr [] s r h rule = head_beside (Remove (Named attr) []) home s r refl (λ args. beside_removed (codes "name") attr args h) rule
+removed_stays home attr (value ∷ values) s r h rule = head_stays (Remove (Named attr) (value ∷ values)) home attr s r refl h rule
 
 -- and where it adds a comment above the rule
 commented : (text : List ℕ) (s : Statement) (head : Option Head) → HasHead head s → HasHead head (comment_rule text s)

@@ -1,6 +1,6 @@
 //! A command on a rule, by its parts: it tells which of them give way to which new ones.
 
-ghost use Rattle.std.specs.Prelude.{◌≡◌, IfOk, IfSome, Some, is_some, map, true};
+ghost use Rattle.std.specs.Prelude.{◌≡◌, IfOk, IfSome, IsTrue, Some, bytes_eq, codes, false, is_some, map, true};
 ghost use Rattle.bz_tree.specs.Tree.{Statement};
 ghost use Rattle.bz_tree.specs.Rows.{part_view, parts_of};
 ghost use Rattle.bz_attribute.specs.RowEdits.{IsWithin};
@@ -13,7 +13,7 @@ use crate::commands::line::comment_rule;
 use crate::commands::set_kind::set_kind;
 use crate::statement_row::StatementRow;
 use bz_attribute::{Edit, Env, Parts, Place};
-use bz_label::{Commented, Setting};
+use bz_label::{Attributes, Commented, Setting, Text};
 use bz_memory::NoMemory;
 
 /// What a command makes of a rule. The new parts go into a list. `Err`: memory was refused, and the list is of no use.
@@ -50,13 +50,27 @@ pub(crate) fn edit_rule<'a>(
 }
 
 /// How many comments more the rule has above it after the command, at least, where it keeps its head.
+#[tactic(auto, using(crate::proofs::HeadKept::head_stays, crate::proofs::HeadKept::renamed_stays, crate::proofs::HeadKept::moved_stays, crate::proofs::HeadKept::removed_stays))]
 pub(crate) fn kept_head(command: &Command) -> Option<usize>
     ensures { IfSome result (λ more. (home : labels.Package) (s : Statement) (r : Rule) → rule_of s.nodes ≡ Some r
         → KeepsHead more s (rule_after command.now home s)) }
 {
-    match one_attribute(command) {
-        Some(attr) if attr != "name" => Some(0),
-        None if matches!(command.action, Action::Comment(Commented::Rule, _)) => Some(1),
-        _ => None,
+    match &command.action {
+        Action::Comment(Commented::Rule, _) => Some(1),
+        Action::Rename(old, new) | Action::Move(old, new, _) if is_other(old) && is_other(new) => {
+            Some(0)
+        }
+        Action::Remove(Attributes::Named(attr), _) if is_other(attr) => Some(0),
+        _ => match one_attribute(command) {
+            Some(attr) if attr != "name" => Some(0),
+            _ => None,
+        },
     }
+}
+
+/// It is another attribute than the name.
+fn is_other(attr: &Text) -> bool
+    ensures { IsTrue result → bytes_eq attr.now (codes "name") ≡ false }
+{
+    attr.as_str() != "name"
 }

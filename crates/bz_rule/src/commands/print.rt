@@ -25,7 +25,7 @@ use bz_attribute::{
     Done, Env, Executed, Head, Note, elements_at, is_list, only_text, push_home, value_end,
     value_place,
 };
-use bz_label::{Package, Text, quote, read_value};
+use bz_label::{Package, Text, plain_text, quote, read_value};
 use bz_layout::flat_parts;
 use bz_memory::{NoMemory, push_char, push_number, push_str, with_length_of};
 use bz_tree::{GroupKind, Node, Part, Seg, nodes_of_parts};
@@ -257,6 +257,11 @@ fn push_string(alloc: Global, text: &mut String, nodes: &[Node<'_>]) -> Result<b
     let Some(literal) = only_text(nodes) else {
         return Ok(false);
     };
+    // Most need no copy.
+    if let Some(word) = plain_text(literal) {
+        push_word(alloc, text, word)?;
+        return Ok(true);
+    }
     let Some(word) = read_value(alloc, literal)? else {
         return Ok(false);
     };
