@@ -12,7 +12,7 @@ use Rattle.bz_tree.specs.Rows.{RowPart, part_view, a_token, opening, closing, se
 use Rattle.bz_attribute.specs.Elements.{ListRest, rest_parts, value_parts}
 use Rattle.bz_attribute.specs.Lists as lists
 use Rattle.bz_attribute.specs.ListWalk as walk
-use Rattle.bz_attribute.specs.private.Parts.{ItemEnds, ends_piece, is_end, is_joint, is_open, is_plus, opens_list, parts_len}
+use Rattle.bz_attribute.specs.private.Parts.{ItemEnds, ends_piece, is_end, may_be_in_sum, is_open, is_plus, opens_list, parts_len}
 use Rattle.bz_attribute.proofs.Lengths.{segs_ended}
 use Rattle.bz_tree.proofs.Rows.FromParts.{segs_back}
 
@@ -21,7 +21,7 @@ abbrev first_of : Item → RowPart
 first_of (leaf kind text) = a_token kind text
 first_of (group kind segs one_comma end) = opening kind
 
-joint_told : (x : Item) → is_joint (first_of x) ≡ lists.is_joint x
+joint_told : (x : Item) → may_be_in_sum (first_of x) ≡ lists.may_be_in_sum x
 joint_told (leaf kind text) = refl
 joint_told (group kind segs one_comma end) = refl
 
@@ -87,7 +87,7 @@ pub record IsItemAt (nodes : List Item) (after ps : List RowPart) (at : ℕ) (p 
   pub x : Item
   pub xs : List Item
   pub are : nodes ≡ x ∷ xs
-  pub joint : is_joint p ≡ lists.is_joint x
+  pub joint : may_be_in_sum p ≡ lists.may_be_in_sum x
   pub plus : is_plus p ≡ lists.is_plus x
   pub list : opens_list p ≡ walk.is_list x
   pub long : (end : ℕ) → ItemEnds ps at end → end ≡ at + length (item_parts x)
@@ -101,7 +101,7 @@ begins x xs after ps qs at p read first =
       x = x;
       xs = xs;
       are = refl;
-      joint = ap is_joint (sym is) ∙ joint_told x;
+      joint = ap may_be_in_sum (sym is) ∙ joint_told x;
       plus = ap is_plus (sym is) ∙ plus_told x;
       list = ap opens_list (sym is) ∙ list_told x;
       long = λ end ends. ends x xs after read;

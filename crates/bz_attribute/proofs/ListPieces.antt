@@ -9,7 +9,7 @@ use Rattle.bz_token.specs.Common.{is_empty, map_or}
 use Rattle.bz_tree.specs.declared.tree.GroupKind.TheVariants.{List as ListKind}
 use Rattle.bz_tree.specs.Tree.{Item, leaf, group, Segment}
 use Rattle.bz_attribute.specs.Rules.{elements}
-use Rattle.bz_attribute.specs.Lists.{is_joint, is_plus, only_list, sum_of, parts, edit_piece, edit_parts}
+use Rattle.bz_attribute.specs.Lists.{may_be_in_sum, is_plus, only_list, sum_of, parts, edit_piece, edit_parts}
 use Rattle.bz_attribute.specs.Effects.{edit_first, edit_part}
 use Rattle.bz_attribute.specs.ListWalk.{ends, is_list, is_only, is_part, parts_from, edit_element, edit_first_part, edit_list, edit_from, edit_one_from, edit_element_from}
 
@@ -166,14 +166,14 @@ first_walked p f start (x ∷ xs) = elim (cases_Bool (is_plus x)) [
 ]
 
 -- where not all are joints, there is one piece, and no list
-no_list : (nodes : List Item) → list_all is_joint nodes ≡ false → only_list nodes ≡ None
+no_list : (nodes : List Item) → list_all may_be_in_sum nodes ≡ false → only_list nodes ≡ None
 no_list [] h = refl
 no_list (leaf kind text ∷ xs) h = refl
 no_list (group ListKind segs one_comma end ∷ []) h = absurd (false≢true (sym h))
 no_list (group ListKind segs one_comma end ∷ x ∷ xs) h = refl
 no_list (group _ segs one_comma end ∷ xs) h = refl
 
-stays : (f : List Segment → List Segment) (nodes : List Item) → list_all is_joint nodes ≡ false → edit_piece f nodes ≡ nodes
+stays : (f : List Segment → List Segment) (nodes : List Item) → list_all may_be_in_sum nodes ≡ false → edit_piece f nodes ≡ nodes
 stays f [] h = refl
 stays f (leaf kind text ∷ xs) h = refl
 stays f (group ListKind segs one_comma end ∷ []) h = absurd (false≢true (sym h))
@@ -181,22 +181,22 @@ stays f (group ListKind segs one_comma end ∷ x ∷ xs) h = refl
 stays f (group _ segs one_comma end ∷ xs) h = refl
 
 abbrev pub walked_parts : List Item → List (List Segment)
-walked_parts nodes = if list_all is_joint nodes then parts_from true nodes else []
+walked_parts nodes = if list_all may_be_in_sum nodes then parts_from true nodes else []
 
 pub parts_are : (nodes : List Item) → parts nodes ≡ walked_parts nodes
-parts_are nodes = elim (cases_Bool (list_all is_joint nodes)) [
+parts_are nodes = elim (cases_Bool (list_all may_be_in_sum nodes)) [
   | inl is ↦ rw is (ap (filter_map only_list) (split_is nodes) ∙ parts_walked true nodes)
   | inr other ↦ rw other (ap (λ (o : Option (List Segment)). cons_option o []) (no_list nodes other))
 ]
 
-pub edit_parts_are : (f : List Segment → List Segment) (nodes : List Item) → edit_parts f nodes ≡ (if list_all is_joint nodes then edit_from f true nodes else nodes)
-edit_parts_are f nodes = elim (cases_Bool (list_all is_joint nodes)) [
+pub edit_parts_are : (f : List Segment → List Segment) (nodes : List Item) → edit_parts f nodes ≡ (if list_all may_be_in_sum nodes then edit_from f true nodes else nodes)
+edit_parts_are f nodes = elim (cases_Bool (list_all may_be_in_sum nodes)) [
   | inl is ↦ rw is (ap (λ (ps : List (List Item)). sum_of (map (edit_piece f) ps)) (split_is nodes) ∙ all_walked f true nodes)
   | inr other ↦ rw other (append-nil (edit_piece f nodes) ∙ stays f nodes other)
 ]
 
-edit_part_is : (p : List Segment → Bool) (f : List Segment → List Segment) (nodes : List Item) → edit_part p f nodes ≡ (if list_all is_joint nodes then edit_part_from p f true nodes else nodes)
-edit_part_is p f nodes = elim (cases_Bool (list_all is_joint nodes)) [
+edit_part_is : (p : List Segment → Bool) (f : List Segment → List Segment) (nodes : List Item) → edit_part p f nodes ≡ (if list_all may_be_in_sum nodes then edit_part_from p f true nodes else nodes)
+edit_part_is p f nodes = elim (cases_Bool (list_all may_be_in_sum nodes)) [
   | inl is ↦ rw is (ap (λ (ps : List (List Item)). sum_of (first_of p f ps)) (split_is nodes) ∙ first_walked p f true nodes)
   | inr other ↦ rw (other, no_list nodes other) (append-nil nodes)
 ]
@@ -206,12 +206,12 @@ one_is f start [] = refl
 one_is f start (x ∷ xs) = rw (one_is f (is_plus x) xs)
     (elim (is_part start x xs) as (λ b. (if b && true then edit_list f x ∷ xs else x ∷ edit_one_from f (is_plus x) xs) ≡ (if b then edit_list f x ∷ xs else x ∷ edit_one_from f (is_plus x) xs)) [ true ↦ refl | false ↦ refl ])
 
-pub edit_first_part_is : (f : List Segment → List Segment) (nodes : List Item) → edit_first_part f nodes ≡ (if list_all is_joint nodes then edit_one_from f true nodes else nodes)
-edit_first_part_is f nodes = edit_part_is (λ ss. true) f nodes ∙ ap (λ (xs : List Item). if list_all is_joint nodes then xs else nodes) (one_is f true nodes)
+pub edit_first_part_is : (f : List Segment → List Segment) (nodes : List Item) → edit_first_part f nodes ≡ (if list_all may_be_in_sum nodes then edit_one_from f true nodes else nodes)
+edit_first_part_is f nodes = edit_part_is (λ ss. true) f nodes ∙ ap (λ (xs : List Item). if list_all may_be_in_sum nodes then xs else nodes) (one_is f true nodes)
 
 element_is : (p : Segment → Bool) (f : Segment → Segment) (start : Bool) (xs : List Item) → edit_part_from (list_any p) (edit_first p (λ s. f s ∷ [])) start xs ≡ edit_element_from p f start xs
 element_is p f start [] = refl
 element_is p f start (x ∷ xs) = rw (element_is p f (is_plus x) xs) refl
 
-pub edit_element_is : (p : Segment → Bool) (f : Segment → Segment) (nodes : List Item) → edit_element p f nodes ≡ (if list_all is_joint nodes then edit_element_from p f true nodes else nodes)
-edit_element_is p f nodes = edit_part_is (list_any p) (edit_first p (λ s. f s ∷ [])) nodes ∙ ap (λ (xs : List Item). if list_all is_joint nodes then xs else nodes) (element_is p f true nodes)
+pub edit_element_is : (p : Segment → Bool) (f : Segment → Segment) (nodes : List Item) → edit_element p f nodes ≡ (if list_all may_be_in_sum nodes then edit_element_from p f true nodes else nodes)
+edit_element_is p f nodes = edit_part_is (list_any p) (edit_first p (λ s. f s ∷ [])) nodes ∙ ap (λ (xs : List Item). if list_all may_be_in_sum nodes then xs else nodes) (element_is p f true nodes)

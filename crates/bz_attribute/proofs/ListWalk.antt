@@ -14,7 +14,7 @@ use Rattle.bz_attribute.specs.Lists.{only_list}
 use Rattle.bz_attribute.specs.Lists as lists
 use Rattle.bz_attribute.specs.ListWalk as walk
 use Rattle.bz_attribute.proofs.ListPieces.{parts_are, edit_parts_are, edit_first_part_is, edit_element_is, only_is}
-use Rattle.bz_attribute.specs.private.Parts.{is_end, ItemEnds, ends_piece, is_joint, is_plus, opens_list}
+use Rattle.bz_attribute.specs.private.Parts.{is_end, ItemEnds, ends_piece, may_be_in_sum, is_plus, opens_list}
 use Rattle.bz_attribute.proofs.ItemParts.{item_at, none_after, none_at, opened, piece_told, rest_of}
 use Rattle.bz_tree.proofs.Rows.FromParts.{segs_back}
 
@@ -39,12 +39,12 @@ HasWalked whole start ps from at = (nodes : List Item) (after : List RowPart) �
 pub record AreJoints (nodes : List Item) (after ps : List RowPart) (at : ℕ) : Type 0 where
   pub back : List Item
   pub read : drop at ps ≡ value_parts back after
-  pub joints : list_all lists.is_joint nodes ≡ list_all lists.is_joint back
+  pub joints : list_all lists.may_be_in_sum nodes ≡ list_all lists.may_be_in_sum back
 
 abbrev pub HasJoints : List RowPart → ℕ → ℕ → Type 0
 HasJoints ps from at = (nodes : List Item) (after : List RowPart) → drop from ps ≡ value_parts nodes after → AreJoints nodes after ps at
 
-pub joints_pass : (ps : List Part) (from at end : ℕ) (d : Part) → HasJoints (map part_view ps) from at → at < length ps → is_end (part_view (get_or ps at d)) ≡ false → is_joint (part_view (get_or ps at d)) ≡ true
+pub joints_pass : (ps : List Part) (from at end : ℕ) (d : Part) → HasJoints (map part_view ps) from at → at < length ps → is_end (part_view (get_or ps at d)) ≡ false → may_be_in_sum (part_view (get_or ps at d)) ≡ true
     → ItemEnds (map part_view ps) at end → HasJoints (map part_view ps) from end
 joints_pass ps from at end d w h more joint end_is = λ nodes after read.
     let j = w nodes after read in
@@ -52,21 +52,21 @@ joints_pass ps from at end d w h more joint end_is = λ nodes after read.
     record {
       back = i.xs;
       read = i.next end end_is;
-      joints = j.joints ∙ ap (list_all lists.is_joint) i.are ∙ ap (λ (b : Bool). b && list_all lists.is_joint i.xs) (sym i.joint ∙ joint);
+      joints = j.joints ∙ ap (list_all lists.may_be_in_sum) i.are ∙ ap (λ (b : Bool). b && list_all lists.may_be_in_sum i.xs) (sym i.joint ∙ joint);
     }
 
-pub no_joint : (ps : List Part) (from at : ℕ) (d : Part) (nodes : List Item) (after : List RowPart) → HasJoints (map part_view ps) from at → at < length ps → is_end (part_view (get_or ps at d)) ≡ false → is_joint (part_view (get_or ps at d)) ≡ false
-    → drop from (map part_view ps) ≡ value_parts nodes after → list_all lists.is_joint nodes ≡ false
+pub no_joint : (ps : List Part) (from at : ℕ) (d : Part) (nodes : List Item) (after : List RowPart) → HasJoints (map part_view ps) from at → at < length ps → is_end (part_view (get_or ps at d)) ≡ false → may_be_in_sum (part_view (get_or ps at d)) ≡ false
+    → drop from (map part_view ps) ≡ value_parts nodes after → list_all lists.may_be_in_sum nodes ≡ false
 no_joint ps from at d nodes after w h more joint read =
     let j = w nodes after read in
     let i = item_at j.back after ps at d j.read h more in
-    j.joints ∙ ap (list_all lists.is_joint) i.are ∙ ap (λ (b : Bool). b && list_all lists.is_joint i.xs) (sym i.joint ∙ joint)
+    j.joints ∙ ap (list_all lists.may_be_in_sum) i.are ∙ ap (λ (b : Bool). b && list_all lists.may_be_in_sum i.xs) (sym i.joint ∙ joint)
 
 pub all_joints : (ps : List Part) (from at : ℕ) (d : Part) (nodes : List Item) (after : List RowPart) → HasJoints (map part_view ps) from at → at < length ps → is_end (part_view (get_or ps at d)) ≡ true
-    → drop from (map part_view ps) ≡ value_parts nodes after → list_all lists.is_joint nodes ≡ true
+    → drop from (map part_view ps) ≡ value_parts nodes after → list_all lists.may_be_in_sum nodes ≡ true
 all_joints ps from at d nodes after w h end read =
     let j = w nodes after read in
-    j.joints ∙ ap (list_all lists.is_joint) (none_at j.back after ps at d j.read h end)
+    j.joints ∙ ap (list_all lists.may_be_in_sum) (none_at j.back after ps at d j.read h end)
 
 pub no_joints_after : {P : Type 0} (ps : List Part) (from at : ℕ) (nodes : List Item) (after : List RowPart) → HasJoints (map part_view ps) from at → length ps ≤ at → drop from (map part_view ps) ≡ value_parts nodes after → P
 no_joints_after ps from at nodes after w h read = let j = w nodes after read in none_after j.back after ps at j.read h
@@ -108,7 +108,7 @@ keeps_found : (p : Segment → Bool) (f : Segment → Segment) → KeepsOthers (
 keeps_found p f start x xs told = rw told refl
 
 abbrev Joined : Bool → List Item → Type 0
-Joined whole nodes = whole ≡ true → list_all lists.is_joint nodes ≡ true
+Joined whole nodes = whole ≡ true → list_all lists.may_be_in_sum nodes ≡ true
 
 all_lists : (whole : Bool) (nodes : List Item) → Joined whole nodes → lists_in whole nodes ≡ parts_from whole nodes
 all_lists true nodes h = parts_are nodes ∙ rw (h refl) refl
@@ -203,7 +203,7 @@ only_here [] after ps from to read to_is is = absurd (false≢true is)
 only_here (x ∷ []) after ps from to read to_is is =
     let l = list_is x (sym (only_is (x ∷ [])) ∙ is) in
     let start : IsWalked true true (x ∷ []) after ps from from = record { front = []; back = x ∷ []; are = refl; place = omega arith; read = read; lists = refl; others = λ e keeps. refl } in
-    let joint : list_all lists.is_joint (x ∷ []) ≡ true = ap (λ (y : Item). list_all lists.is_joint (y ∷ [])) l.is in
+    let joint : list_all lists.may_be_in_sum (x ∷ []) ≡ true = ap (λ (y : Item). list_all lists.may_be_in_sum (y ∷ [])) l.is in
     subst (IsListIn true (x ∷ []) after ps from) (sym to_is) (here true (x ∷ []) after ps from from [] l.segs l.one_comma l.end start (ap (λ (y : Item). y ∷ []) l.is) refl (λ h. joint))
 only_here (x ∷ y ∷ xs) after ps from to read to_is is = absurd (false≢true (sym (only_is (x ∷ y ∷ xs)) ∙ is))
 

@@ -9,8 +9,8 @@ use Rattle.bz_token.specs.Common.{is_empty, map_or}
 use Rattle.bz_tree.specs.Tree.{Item, leaf, group, Segment, Statement, segs_of}
 use Rattle.bz_label.specs.Labels.{Package}
 use Rattle.bz_label.specs.Values.{quoted}
-use Rattle.bz_label.specs.declared.arguments.Moved.{Moved}
-use Rattle.bz_label.specs.declared.arguments.Moved.TheVariants.{All, Values}
+use Rattle.bz_label.specs.declared.arguments.Chosen.{Chosen}
+use Rattle.bz_label.specs.declared.arguments.Chosen.TheVariants.{All, Values}
 use Rattle.bz_attribute.specs.Rules.{Rule, rule_of, is_named, value}
 use Rattle.bz_attribute.specs.Lists.{with_value, parts, edit_parts, edit_piece, equals, only_list, pieces, sum_of}
 use Rattle.bz_attribute.specs.declared.done.Done.{Done}
@@ -39,17 +39,17 @@ edit_part p f nodes = sum_of (edit_first (λ piece. map_or false p (only_list pi
 abbrev pub with_comment : List ℕ → Segment → Segment
 with_comment line s = record s { before = s.before ++ line ∷ [] }
 
--- the elements that a command means: all, or those that equal one of its values (`Moved`, which not only `move` uses)
-abbrev pub is_chosen : Package → Moved → Segment → Bool
+-- the elements that a command means: all, or those that equal one of its values (`Chosen`)
+abbrev pub is_chosen : Package → Chosen → Segment → Bool
 is_chosen home All s = true
 is_chosen home (Values values) s = list_any (λ word. equals home word s) values
 
 -- the elements that it does not mean
-abbrev pub unchosen : Package → Moved → List Segment → List Segment
+abbrev pub unchosen : Package → Chosen → List Segment → List Segment
 unchosen home chosen ss = filter (λ s. not (is_chosen home chosen s)) ss
 
 -- an element of a list part is chosen
-abbrev pub chooses : Package → Moved → Segment → Bool
+abbrev pub chooses : Package → Chosen → Segment → Bool
 chooses home chosen a = list_any (list_any (is_chosen home chosen)) (parts (value a))
 
 -- the whole value is one list, and f leaves nothing of it
@@ -77,12 +77,12 @@ abbrev pub argument : List ℕ → List Item → Segment
 argument attr nodes = record { before = []; nodes = leaf Identifier attr ∷ leaf Operator (codes "=") ∷ nodes; suffix = None }
 
 -- the note where the attribute is there and has no list part
-abbrev pub not_a_list : List ℕ → Option Segment → Option Note
-not_a_list attr o = option_and_then (λ a. if is_empty (parts (value a)) then Some (NotAList attr) else None) o
+abbrev pub no_list_note : List ℕ → Option Segment → Option Note
+no_list_note attr o = option_and_then (λ a. if is_empty (parts (value a)) then Some (NotAList attr) else None) o
 
 -- the note where the attribute is absent
-abbrev pub is_absent : List ℕ → List Segment → Option Note
-is_absent attr args = if has attr args then None else Some (NoAttribute attr)
+abbrev pub absent_note : List ℕ → List Segment → Option Note
+absent_note attr args = if has attr args then None else Some (NoAttribute attr)
 
 -- the nodes of a rule
 abbrev pub nodes_of : Rule → List Item

@@ -20,10 +20,10 @@ equals home word element = map_or false (λ value. same home value word) (string
 
 -- a node that may stand in a value that is split: an operand, a plus operator or a dot; no keyword, no other
 -- operator
-abbrev pub is_joint : Item → Bool
-is_joint (leaf Keyword text) = false
-is_joint (leaf Operator text) = bytes_eq text (codes "+") || bytes_eq text (codes ".")
-is_joint _ = true
+abbrev pub may_be_in_sum : Item → Bool
+may_be_in_sum (leaf Keyword text) = false
+may_be_in_sum (leaf Operator text) = bytes_eq text (codes "+") || bytes_eq text (codes ".")
+may_be_in_sum _ = true
 
 -- the operator `+`
 abbrev pub is_plus : Item → Bool
@@ -37,7 +37,7 @@ only_list _ = None
 -- A value is split at each plus operator, if all that stands in it outside inner brackets is operands, plus
 -- operators and dots. A piece that is one list is a list part.
 abbrev pub pieces : List Item → List (List Item)
-pieces nodes = if list_all is_joint nodes then slice_split is_plus nodes else nodes ∷ []
+pieces nodes = if list_all may_be_in_sum nodes then slice_split is_plus nodes else nodes ∷ []
 
 -- pieces with a plus operator between two
 abbrev pub sum_of : List (List Item) → List Item

@@ -59,8 +59,8 @@ pub(crate) fn item_end(parts: &[Part<'_>], at: usize) -> usize
 }
 
 // An item that begins with this part may stand in a value that has list parts.
-fn is_joint(part: &Part<'_>) -> bool
-    ensures { result ≡ spec.is_joint (part_view part.now) }
+fn may_be_in_sum(part: &Part<'_>) -> bool
+    ensures { result ≡ spec.may_be_in_sum (part_view part.now) }
 {
     match part {
         Part::Token(Kind::Keyword, _) => false,
@@ -105,11 +105,11 @@ fn ends_piece(parts: &[Part<'_>]) -> bool
 #[tactic(auto, using(crate::proofs::ListWalk::all_joints, crate::proofs::ListWalk::joints_pass, crate::proofs::ListWalk::no_joint))]
 fn are_joints(parts: &[Part<'_>], from: usize) -> bool
     requires { from ≤ length parts.now }
-    ensures { ForValue (map part_view parts.now) from (λ nodes after ps. result ≡ list_all lists.is_joint nodes) }
+    ensures { ForValue (map part_view parts.now) from (λ nodes after ps. result ≡ list_all lists.may_be_in_sum nodes) }
 {
     let mut at = from;
     while at < parts.len() && !is_end(&parts[at]) {
-        if !is_joint(&parts[at]) {
+        if !may_be_in_sum(&parts[at]) {
             return false;
         }
         at = item_end(parts, at);
@@ -122,9 +122,9 @@ fn are_joints(parts: &[Part<'_>], from: usize) -> bool
 fn list_from(parts: &[Part<'_>], from: usize, whole: bool) -> Option<usize>
     requires { from ≤ length parts.now }
     ensures some { IfSome result (λ to. ForValue (map part_view parts.now) from (λ nodes after ps.
-        (whole ≡ true → list_all lists.is_joint nodes ≡ true) → IsListIn whole nodes after ps from to)) }
+        (whole ≡ true → list_all lists.may_be_in_sum nodes ≡ true) → IsListIn whole nodes after ps from to)) }
     ensures none { IfNone result (ForValue (map part_view parts.now) from (λ nodes after ps.
-        (whole ≡ true → list_all lists.is_joint nodes ≡ true) → HasNoList whole nodes)) }
+        (whole ≡ true → list_all lists.may_be_in_sum nodes ≡ true) → HasNoList whole nodes)) }
     ensures within { IfSome result (λ to. (from < to) × (to ≤ length parts.now)) }
 {
     let mut at = from;

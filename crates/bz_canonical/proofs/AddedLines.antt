@@ -14,10 +14,10 @@ use Rattle.bz_layout.specs.Pieces.{bytes_of, comments, indent, suffix_piece}
 use Rattle.bz_layout.specs.Respell.{respell}
 use Rattle.bz_label.specs.Labels.{Package}
 use Rattle.bz_label.specs.Values.{quoted}
-use Rattle.bz_label.specs.declared.arguments.Moved.TheVariants.{Values}
+use Rattle.bz_label.specs.declared.arguments.Chosen.TheVariants.{Values}
 use Rattle.bz_rule.specs.Add.{add, adds, new_elements}
 use Rattle.bz_rule.proofs.Adds.{add_is as added_by_value}
-use Rattle.bz_attribute.specs.Effects.{is_chosen, not_a_list, string}
+use Rattle.bz_attribute.specs.Effects.{is_chosen, no_list_note, string}
 use Rattle.bz_canonical.specs.Added.{AddsToLines, IsNew, IsPresent}
 use Rattle.bz_canonical.specs.Canonical.{argument_lines, read_alone}
 use Rattle.bz_canonical.specs.declared.edited.EditedList.TheVariants.{Unchanged, Written}
@@ -87,7 +87,7 @@ value_present depth home edit text old buffer list l there = λ args reads.
     let first = first_is edit.attr.now a.name a.notes a.elements a.suffix a.named in
     let present : true ≡ have_word home edit.word.now a.elements = sym there ∙ all.meant_is ∙ have_is home edit a.elements in
     subst (IsPresent home (sought edit)) (sym (a.same args reads)) (record {
-      list = ap (not_a_list edit.attr.now) first;
+      list = ap (no_list_note edit.attr.now) first;
       present = ap (adds home (edit.word.now ∷ [])) first ∙ ap (λ (ss : List Segment). not (is_empty ss)) (news_are home edit.word.now a.elements true present);
     })
 
@@ -116,7 +116,7 @@ value_new depth home edit text old buffer put new list l none pending new_is =
       ((F ++ L) ++ E) ++ list.end.now,
       new_is ∙ ap (λ (t : List ℕ). (t ++ E) ++ list.end.now) put_is ∙ joined F L E list.end.now,
       λ args reads. subst (λ xs. IsNew home (sought edit) xs (((F ++ L) ++ E) ++ list.end.now)) (sym (a.same args reads)) (record {
-        list = ap (not_a_list attr) first;
+        list = ap (no_list_note attr) first;
         new_is = ap (adds home (value ∷ [])) first ∙ ap (λ (ss : List Segment). not (is_empty ss)) (news_are home value a.elements false other);
         lines_are = ap (λ (t : List ℕ). ((F ++ L) ++ E) ++ t) l.last.front ∙ sym lines ∙ ap argument_lines (sym added);
       }),

@@ -20,7 +20,7 @@ use Rattle.bz_layout.specs.declared.spacing.Gap.{Gap}
 use Rattle.bz_layout.specs.declared.spacing.Gap.TheVariants.{Closed, Space}
 use Rattle.bz_layout.specs.Broken.{breaks_by_count}
 use Rattle.bz_layout.specs.declared.broken.Style.TheVariants.{Broken}
-use Rattle.bz_layout.specs.Walked.{item_pieces, items_pieces, closes_up, edge_after, gap_before}
+use Rattle.bz_layout.specs.Walked.{item_pieces, items_pieces, no_space_before, edge_after, gap_before}
 use Rattle.bz_layout.specs.Pieces.{Piece, piece, bytes_of, gap_bytes}
 use Rattle.bz_layout_laws.specs.Legible.{is_leaf_mark, items_depth}
 use Rattle.bz_layout_laws.specs.Parsed.{HaveKinds, plain_calls}
@@ -177,7 +177,7 @@ record IsAssignWord (o : List ℕ) : Type 0 where
   dot : bytes_eq o (codes ".") ≡ false
   assigns : is_assign_operator o ≡ true
   role : is_assignment (operator_role o) ≡ true
-  apart : closes_up (leaf Operator o) ≡ false
+  apart : no_space_before (leaf Operator o) ≡ false
   edge : edge_after None EdgeOperand (leaf Operator o) ≡ EdgeOperator
 
 assign_word : (adds : Bool) → IsAssignWord (assign_operator adds)
@@ -227,7 +227,7 @@ assigned_with depth text end value rest o h f is word v = record {
     plain : plain_calls (v.x ∷ list_of v.xs) ≡ v.x ∷ list_of v.xs
     plain = plain_same false Other (v.x ∷ list_of v.xs) kinds
 
-    gap_is : (x : Item) → closes_up x ≡ false → gap_before Closed EdgeOperator x ≡ Space
+    gap_is : (x : Item) → no_space_before x ≡ false → gap_before Closed EdgeOperator x ≡ Space
     gap_is x apart = rw apart refl
 
     value_is : 32 ∷ value ≡ bytes_of (items_pieces Broken 0 None Closed EdgeOperator (item v.x v.xs)) ++ rest

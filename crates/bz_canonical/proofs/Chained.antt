@@ -16,7 +16,7 @@ use Rattle.bz_layout.specs.declared.spacing.Edge.{Edge}
 use Rattle.bz_layout.specs.declared.spacing.Gap.{Gap}
 use Rattle.bz_layout.specs.declared.spacing.Gap.TheVariants.{Closed, Space}
 use Rattle.bz_layout.specs.declared.broken.Style.TheVariants.{Broken}
-use Rattle.bz_layout.specs.Walked.{items_hold, item_pieces, items_pieces, closes_up, edge_after, gap_before, is_index_colon}
+use Rattle.bz_layout.specs.Walked.{items_hold, item_pieces, items_pieces, no_space_before, edge_after, gap_before, is_index_colon}
 use Rattle.bz_layout.specs.Pieces.{Piece, gap_bytes, bytes_of}
 use Rattle.bz_layout.proofs.Pieces.{bytes_append}
 use Rattle.bz_layout_laws.specs.Legible.{is_leaf_mark}
@@ -170,11 +170,11 @@ record IsInfixWord (o : List ℕ) : Type 0 where
   mark : is_leaf_mark (operator_mark o) ≡ true
   role : is_operator (operator_role o) ≡ true
   comma : is_comma (leaf Operator o) ≡ false
-  apart : closes_up (leaf Operator o) ≡ false
+  apart : no_space_before (leaf Operator o) ≡ false
   dot : bytes_eq o (codes ".") ≡ false
   colon : bytes_eq o (codes ":") ≡ false
 
-infix_of : (o : List ℕ) → is_text Operator o ≡ true → is_leaf_mark (operator_mark o) ≡ true → is_operator (operator_role o) ≡ true → is_comma (leaf Operator o) ≡ false → closes_up (leaf Operator o) ≡ false
+infix_of : (o : List ℕ) → is_text Operator o ≡ true → is_leaf_mark (operator_mark o) ≡ true → is_operator (operator_role o) ≡ true → is_comma (leaf Operator o) ≡ false → no_space_before (leaf Operator o) ≡ false
     → bytes_eq o (codes ".") ≡ false → bytes_eq o (codes ":") ≡ false → IsInfixWord o
 infix_of o text mark role comma apart dot colon = record { text = text; mark = mark; role = role; comma = comma; apart = apart; dot = dot; colon = colon }
 

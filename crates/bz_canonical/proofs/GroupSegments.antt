@@ -15,7 +15,7 @@ use Rattle.bz_layout.specs.declared.spacing.Edge.TheVariants.{Start, Operator as
 use Rattle.bz_layout.specs.declared.spacing.Gap.{Gap}
 use Rattle.bz_layout.specs.declared.spacing.Gap.TheVariants.{Closed, Space, Line}
 use Rattle.bz_layout.specs.declared.broken.Style.TheVariants.{Broken}
-use Rattle.bz_layout.specs.Walked.{segs_hold, have_comments, item_pieces, items_pieces, broken_segs, flat_segs, closes_up, edge_after, gap_before}
+use Rattle.bz_layout.specs.Walked.{segs_hold, have_comments, item_pieces, items_pieces, broken_segs, flat_segs, no_space_before, edge_after, gap_before}
 use Rattle.bz_layout.specs.Pieces.{Piece, piece, gap_bytes, bytes_of, comment_lines, comments, indent, suffix_piece}
 use Rattle.bz_layout.proofs.Pieces.{bytes_append}
 use Rattle.bz_canonical.specs.private.Fronts.{IsTokenFront}
@@ -324,7 +324,7 @@ named_segment kind level depth text equals rest value h f eq v grammar = record 
   breaks = v.breaks;
 }
   where
-    gap_is : (first : Gap) (x : Item) → closes_up x ≡ false → gap_before first EdgeOperator x ≡ Space
+    gap_is : (first : Gap) (x : Item) → no_space_before x ≡ false → gap_before first EdgeOperator x ≡ Space
     gap_is first x e = rw e refl
 
     value_is : (first : Gap) → 32 ∷ value ≡ bytes_of (items_pieces Broken level (Some kind) first EdgeOperator (item v.x v.xs)) ++ rest
@@ -361,7 +361,7 @@ entry_segment level depth text colon rest value h k eq v = record {
   breaks = rw k.breaks v.breaks;
 }
   where
-    gap_is : (first : Gap) (x : Item) → closes_up x ≡ false → gap_before first EdgeOperator x ≡ Space
+    gap_is : (first : Gap) (x : Item) → no_space_before x ≡ false → gap_before first EdgeOperator x ≡ Space
     gap_is first x e = rw e refl
 
     value_is : (first : Gap) → 32 ∷ value ≡ bytes_of (items_pieces Broken level (Some Dict) first EdgeOperator (item v.x v.xs)) ++ rest

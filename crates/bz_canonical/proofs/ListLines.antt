@@ -14,7 +14,7 @@ use Rattle.bz_layout_laws.proofs.FreeRead.{free_again}
 use Rattle.bz_layout_laws.specs.FreeLayout.{Choice, broken_by, free, own, text_by}
 use Rattle.bz_layout_laws.specs.Lineless.{lineless}
 use Rattle.bz_label.specs.Labels.{Package}
-use Rattle.bz_label.specs.declared.arguments.Moved.TheVariants.{Values}
+use Rattle.bz_label.specs.declared.arguments.Chosen.TheVariants.{Values}
 use Rattle.bz_attribute.specs.Effects.{chooses, is_chosen}
 use Rattle.bz_attribute.specs.Rules.{first_named, rule_of}
 use Rattle.bz_attribute.proofs.Views.{segments_of}

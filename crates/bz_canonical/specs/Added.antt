@@ -5,8 +5,8 @@ use Rattle.bz_token.specs.Common.{map_or}
 use Rattle.bz_tree.specs.Tree.{Segment}
 use Rattle.bz_label.specs.Labels.{Package}
 use Rattle.bz_rule.specs.Add.{add, adds}
-use Rattle.bz_label.specs.declared.arguments.Moved.TheVariants.{Values}
-use Rattle.bz_attribute.specs.Effects.{chooses, not_a_list}
+use Rattle.bz_label.specs.declared.arguments.Chosen.TheVariants.{Values}
+use Rattle.bz_attribute.specs.Effects.{chooses, no_list_note}
 use Rattle.bz_attribute.specs.Rules.{first_named}
 use Rattle.bz_canonical.specs.Canonical.{AloneLines, AreReadAlone, argument_lines}
 use Rattle.bz_rule.specs.declared.forms.ListValue.{ListValue}
@@ -15,12 +15,12 @@ use Rattle.bz_canonical.specs.declared.edited.EditedList.TheVariants.{Unchanged,
 
 -- the first argument of the name has a list, and an element of it equals the value
 pub record IsPresent (home : Package) (sought : ListValue) (args : List Segment) : Type 0 where
-  pub list : not_a_list sought.attr.now (first_named sought.attr.now args) ≡ None
+  pub list : no_list_note sought.attr.now (first_named sought.attr.now args) ≡ None
   pub present : adds home (sought.value.now ∷ []) (first_named sought.attr.now args) ≡ false
 
 -- It has a list, and none does: the arguments, with the value, have these lines.
 pub record IsNew (home : Package) (new : ListValue) (args : List Segment) (lines : List ℕ) : Type 0 where
-  pub list : not_a_list new.attr.now (first_named new.attr.now args) ≡ None
+  pub list : no_list_note new.attr.now (first_named new.attr.now args) ≡ None
   pub new_is : adds home (new.value.now ∷ []) (first_named new.attr.now args) ≡ true
   pub lines_are : lines ≡ argument_lines (add home new.attr.now (new.value.now ∷ []) args)
 

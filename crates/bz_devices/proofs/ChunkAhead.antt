@@ -138,11 +138,11 @@ block_fits max n bytes slice at_end same fits next long =
 
 pub line_undecided : (max e : ℕ) (ahead : Ahead) → ahead.ended ≡ false → e ≤ length ahead.bytes → IsBegun ahead e → IsOpen (drop e ahead.bytes) → length ahead.bytes ≤ max
     → IsUndecided max ahead.bytes
-line_undecided max e ahead ended within begun is fits = record { uncertain = uncertain_line e ahead ended within begun is; fitting = line_fits max ahead.bytes fits }
+line_undecided max e ahead ended within begun is fits = record { none_is_chunk = uncertain_line e ahead ended within begun is; none_too_long = line_fits max ahead.bytes fits }
 
 pub block_undecided : (max n : ℕ) (ahead : Ahead) (slice : List ℕ) (at_end : Bool) → slice ≡ drop n ahead.bytes → n ≤ max → IsNext Short at_end (take n ahead.bytes) slice → IsUndecided max ahead.bytes
 block_undecided max n ahead slice at_end same fits next =
-    record { uncertain = uncertain_block n ahead slice at_end same next; fitting = block_fits max n ahead.bytes slice at_end same fits next }
+    record { none_is_chunk = uncertain_block n ahead slice at_end same next; none_too_long = block_fits max n ahead.bytes slice at_end same fits next }
 
 -- a chunk that is found fits
 pub next_fits : (max n : ℕ) (ahead : Ahead) → IsNextChunk max ahead n → IsTooLong max ahead → ⊥

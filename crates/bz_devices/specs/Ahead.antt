@@ -72,8 +72,8 @@ IsUncertain ahead = NoneIsChunk ahead.bytes
 -- These bytes leave the next chunk open: no front of them is a chunk whatever follows, and it is not sure to
 -- be too long.
 pub record IsUndecided (max_statement : ℕ) (bytes : List ℕ) : Type 0 where
-  pub uncertain : NoneIsChunk bytes
-  pub fitting : ((rest : List ℕ) → BeginsTooLong max_statement bytes rest) → ⊥
+  pub none_is_chunk : NoneIsChunk bytes
+  pub none_too_long : ((rest : List ℕ) → BeginsTooLong max_statement bytes rest) → ⊥
 
 -- Each of these reads was needed, since the bytes before it left the next chunk open, and gave at most 8,192
 -- bytes.

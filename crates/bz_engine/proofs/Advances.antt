@@ -111,7 +111,7 @@ done_at_state v state pieces cs text done = record {
   statements = done.statements;
   kept = done.kept;
   text_is = done.text_is;
-  calm = done.calm;
+  none_fails = done.none_fails;
 }
 
 -- which step an answer tells

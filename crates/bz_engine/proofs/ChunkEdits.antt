@@ -35,7 +35,7 @@ blank_done run cs ss chunk old new before kept gives is = record {
   shown = [];
   appended = sym (append-nil before);
   text = text_after_none run.home run.passes ss;
-  calm = λ h calm. ap (λ p. p.failed) is ∙ calm;
+  none_fails = λ h none_fails. ap (λ p. p.failed) is ∙ none_fails;
 }
 
 -- a statement, which the script left as `laid` says
@@ -57,7 +57,7 @@ statement_done run cs ss chunk s old mid new before after kept gives laid is = r
   shown = if is_query run.passes then [] else text_following old.last (slot_after (meaning run.home) run.passes (Some s) ∷ []);
   appended = laid.text;
   text = text_after_more run.home run.passes ss s old.last kept.last;
-  calm = λ h before_calm. ap (λ p. p.failed) is ∙ laid.calm h before_calm;
+  none_fails = λ h before_calm. ap (λ p. p.failed) is ∙ laid.none_fails h before_calm;
 }
 
 -- a statement that the script run.passes by
@@ -73,7 +73,7 @@ passed_by run class s old new before after passed of_class same text =
       last = ap (λ p. p.last) same ∙ ap (λ c. Some c) of_class ∙ ap (λ slot. last_class old.last (slot ∷ [])) stays;
       line = ap (λ p. p.line) same;
       text = text ∙ ap (λ slot. before ++ (if is_query run.passes then [] else text_following old.last (slot ∷ []))) stays;
-      calm = λ ends calm. ap (λ p. p.failed) same ∙ calm;
+      none_fails = λ ends none_fails. ap (λ p. p.failed) same ∙ none_fails;
     }
 
 -- what the script on a statement made of its chunk
@@ -90,7 +90,7 @@ scripted_edited run cs ss chunk s old mid new before after (scripts.Failed messa
   statement = s;
   read = gives;
   fails = ended.fails;
-  message_is = λ calm. ended.message_is calm (slots_of ss) kept.left;
+  message_is = λ none_fails. ended.message_is none_fails (slots_of ss) kept.left;
   changed = ap (λ p. p.changed) is ∙ ended.changed;
   nothing = ended.nothing;
 }

@@ -38,7 +38,7 @@ chunks_front : (v : SessionValue) (pieces cs others : List (List ℕ)) (text fil
 chunks_front v pieces cs others text file whole told done all outcome =
     subst (λ t. IsFrontOf t whole) (sym done.text_is)
     (front_of_outcome (run_in v) file done.statements whole told
-    (record { begins = record { front = cs; after = others; chunks_are = all; read = done.kept.read }; calm = calm_of v pieces cs text done }) outcome)
+    (record { begins = record { front = cs; after = others; chunks_are = all; read = done.kept.read }; none_fails = calm_of v pieces cs text done }) outcome)
 
 done_begins : (v : SessionValue) (pieces cs : List (List ℕ)) (text : List ℕ) → HasDone v pieces cs text → BeginsAll (run_in v) pieces text
 done_begins v pieces cs text done = record {
@@ -161,7 +161,7 @@ all_done v pieces cs text done = record {
   bytes_are = done.bytes;
   chunks_are = λ rest last. done.first rest (λ h. last (subst IsTrue done.ended h));
   read = done.kept.read;
-  calm = calm_of v pieces cs text done;
+  none_fails = calm_of v pieces cs text done;
 }
 
 -- what a step that answered a fault has left of what the next chunk adds

@@ -116,4 +116,4 @@ log_fails home passes ss =
 -- where a failure ends the run, none took place
 pub calm_of : (v : SessionValue) (pieces cs : List (List ℕ)) (text : List ℕ) → (done : HasDone v pieces cs text)
     → v.options.keep_going ≡ false → some_failure v.home v.passes done.statements ≡ false
-calm_of v pieces cs text done ends = failure_is v.home v.passes done.statements ∙ sym done.kept.left.failed ∙ done.calm ends
+calm_of v pieces cs text done ends = failure_is v.home v.passes done.statements ∙ sym done.kept.left.failed ∙ done.none_fails ends

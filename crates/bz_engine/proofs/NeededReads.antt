@@ -58,7 +58,7 @@ done_more v pieces cs more text done stays = record {
       ∙ done.first (concat more ++ rest) over
       ∙ ap (λ l. cs ++ chunks l) (sym (append_assoc v.ahead.bytes (concat more) rest));
   read = done.kept.read;
-  calm = calm_of v pieces cs text done;
+  none_fails = calm_of v pieces cs text done;
 }
 
 -- a read after what was done and more reads

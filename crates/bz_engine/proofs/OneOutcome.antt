@@ -104,9 +104,9 @@ none_within test [] more s h = or_left (test (Some s)) (list_any test (map Some 
 none_within test (b ∷ before) more s h = none_within test before more s (or_right (test (Some b)) (list_any test (map Some ((before ++ s ∷ []) ++ more))) h)
 
 calm_at : {X : Type 0} (home : Package) (passes : Script) (ss before more : List Statement) (s : Statement) → some_failure home passes ss ≡ false → ss ≡ (before ++ s ∷ []) ++ more → some_failure home passes (s ∷ []) ≡ true → X
-calm_at home passes ss before more s calm is fails =
+calm_at home passes ss before more s none_fails is fails =
     let each = failure_each home passes ((before ++ s ∷ []) ++ more) in
-    let none = none_within (some_alone (meaning home) (fails_on home) passes) before more s (sym each ∙ ap (some_failure home passes) (sym is) ∙ calm) in
+    let none = none_within (some_alone (meaning home) (fails_on home) passes) before more s (sym each ∙ ap (some_failure home passes) (sym is) ∙ none_fails) in
     absurd (false≢true (sym none ∙ sym (fails_alone home passes s) ∙ fails))
 
 -- The text of the first statements is a front of the text of all.
@@ -125,7 +125,7 @@ text_front home passes xs (s ∷ more) =
 -- The file begins with these statements, and where failures end the run none of them fails.
 pub record BeginsCalmly (run : Run) (file : List ℕ) (ss : List Statement) : Type 0 where
   pub begins : BeginsWith run.max_depth file ss
-  pub calm : run.keep_going ≡ false → some_failure run.home run.passes ss ≡ false
+  pub none_fails : run.keep_going ≡ false → some_failure run.home run.passes ss ≡ false
 
 -- the statements of a whole run begin with those that the file begins with
 whole_begins : (depth : ℕ) (file : List ℕ) (xs ss : List Statement) (fault : Option SyntaxFault) → BeginsWith depth file xs → AreStatementsOf depth 1 (chunks file) ss fault → (more : List Statement) × (ss ≡ xs ++ more)
@@ -148,7 +148,7 @@ front_of_more : (home : Package) (passes : Script) (xs ss more : List Statement)
 front_of_more home passes xs ss more text is same =
     front_moved (text_after home passes xs) (text_after home passes (xs ++ more)) text (text_front home passes xs more) (is ∙ ap (text_after home passes) same)
 
--- What was written of calm statements that a file begins with is a front of what is written of the file.
+-- What was written of statements of which none fails that a file begins with is a front of what is written of the file.
 front_of_either : (run : Run) (file : List ℕ) (xs : List Statement) (text : List ℕ) (told : Told)
     → BeginsCalmly run file xs → EitherEnd run file text told → IsFrontOf (text_after run.home run.passes xs) text
 front_of_either run file xs text told first (inl w) =
@@ -159,9 +159,9 @@ front_of_either run file xs text told first (inr e) =
       | inl r ↦
           elim (last_or_before e.before xs r.0 e.statement r.1) [
             | inl m ↦ front_of_more run.home run.passes xs e.before m.0 text e.text_is m.1
-            | inr all ↦ calm_at run.home run.passes xs e.before [] e.statement (first.calm e.ends) (all ∙ sym (append-nil (e.before ++ e.statement ∷ []))) e.fails
+            | inr all ↦ calm_at run.home run.passes xs e.before [] e.statement (first.none_fails e.ends) (all ∙ sym (append-nil (e.before ++ e.statement ∷ []))) e.fails
           ]
-      | inr r ↦ calm_at run.home run.passes xs e.before r.0 e.statement (first.calm e.ends) r.1 e.fails
+      | inr r ↦ calm_at run.home run.passes xs e.before r.0 e.statement (first.none_fails e.ends) r.1 e.fails
     ]
 
 pub front_of_outcome : (run : Run) (file : List ℕ) (xs : List Statement) (text : List ℕ) (told : Told)
@@ -193,14 +193,14 @@ not_both : {X : Type 0} (run : Run) (file text text2 : List ℕ) (told told2 : T
     → IsWholeRun run file text told → EndsAtFailure run file text2 told2 → X
 not_both run file text text2 told told2 w e =
     let rest = whole_begins run.max_depth file (e.before ++ e.statement ∷ []) w.statements w.fault e.read w.read in
-    calm_at run.home run.passes w.statements e.before rest.0 e.statement (w.calm e.ends) rest.1 e.fails
+    calm_at run.home run.passes w.statements e.before rest.0 e.statement (w.none_fails e.ends) rest.1 e.fails
 
 -- the first failure is one
 first_same : (home : Package) (passes : Script) (before before2 more : List Statement) (s s2 : Statement)
     → some_failure home passes before2 ≡ false → some_failure home passes (s ∷ []) ≡ true → before2 ++ s2 ∷ [] ≡ (before ++ s ∷ []) ++ more → (before ≡ before2) × (s ≡ s2)
-first_same home passes before before2 more s s2 calm fails is =
+first_same home passes before before2 more s s2 none_fails fails is =
     elim (last_or_before before2 (before ++ s ∷ []) more s2 is) [
-      | inl m ↦ calm_at home passes before2 before m.0 s calm m.1 fails
+      | inl m ↦ calm_at home passes before2 before m.0 s none_fails m.1 fails
       | inr all ↦ same_last before before2 s s2 all
     ]
 
@@ -209,9 +209,9 @@ first_failure : (run : Run) (file text text2 : List ℕ) (told told2 : Told)
     → (p.before ≡ q.before) × (p.statement ≡ q.statement)
 first_failure run file text text2 told told2 p q =
     elim (either_begins run.max_depth file (p.before ++ p.statement ∷ []) (q.before ++ q.statement ∷ []) p.read q.read) [
-      | inl r ↦ first_same run.home run.passes p.before q.before r.0 p.statement q.statement q.calm p.fails r.1
+      | inl r ↦ first_same run.home run.passes p.before q.before r.0 p.statement q.statement q.none_fails p.fails r.1
       | inr r ↦
-          let same = first_same run.home run.passes q.before p.before r.0 q.statement p.statement p.calm q.fails r.1 in
+          let same = first_same run.home run.passes q.before p.before r.0 q.statement p.statement p.none_fails q.fails r.1 in
           (sym same.0, sym same.1)
     ]
 

@@ -152,7 +152,7 @@ only_laid run only s t d old new before after_it alone fits met made told quiet 
       last = ap (λ p. p.last) is ∙ ap (λ x. last_class old.last (x ∷ [])) (sym slot);
       line = ap (λ p. p.line) is;
       text = text ∙ ap (λ x. before ++ (if is_query run.passes then [] else text_following old.last (x ∷ []))) (sym slot);
-      calm = λ ends calm. ap (λ p. p.failed) is ∙ (λ i. calm i || quiet ends i);
+      none_fails = λ ends none_fails. ap (λ p. p.failed) is ∙ (λ i. none_fails i || quiet ends i);
     }
 
 -- The one command leaves s as it is, and tells this line of it.
@@ -196,14 +196,14 @@ pub told_laid : (run : Run) (only : OnePass) (message : Message) (class : Class)
 told_laid run only message class s old mid new before after_it alone fits goes_on met tells class_is kept is text =
     let line : Option (List ℕ) = option_map (λ line. line.now) message.line in
     let d : Done = record { changed = false; line = line; note = Some tells.note } in
-    only_laid run only s s d old new before after_it alone fits met tells.made.after_is tells.made.done (λ ends. tells.failed ∙ calm message.fails goes_on ends)
+    only_laid run only s s d old new before after_it alone fits met tells.made.after_is tells.made.done (λ ends. tells.failed ∙ none_fails message.fails goes_on ends)
     (is ∙ ap (λ (p : Progress). record p { last = Some class }) kept
     ∙ (λ i. record { kept = and_at only.at (one_log_of (map Line (option_to_list line) ++ sym tells.told i)) old.kept; changed = or_false old.changed i; failed = old.failed || sym tells.failed i; last = Some (sym class_is i); line = old.line }))
     (text ∙ ap (λ (p : Progress). before ++ (if is_query run.passes then [] else text_following p.last (Some s ∷ []))) kept)
   where
-    calm : (b : Bool) → (b ≡ true → run.keep_going ≡ true) → run.keep_going ≡ false → b ≡ false
-    calm true goes_on ends = absurd (false≢true (sym ends ∙ goes_on refl))
-    calm false goes_on ends = refl
+    none_fails : (b : Bool) → (b ≡ true → run.keep_going ≡ true) → run.keep_going ≡ false → b ≡ false
+    none_fails true goes_on ends = absurd (false≢true (sym ends ∙ goes_on refl))
+    none_fails false goes_on ends = refl
 
 -- the same of what is kept before and after
 pub laid_as : (run : Run) (s : Statement) (old start end new : Progress) (before after_it : List ℕ) → start ≡ old → new ≡ end → IsLaidOut run s start end before after_it

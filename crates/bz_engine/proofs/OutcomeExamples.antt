@@ -50,13 +50,13 @@ nothing_there : IsOutcome (run_of (deleting (Name (codes "a")))) [] [] (told (co
 nothing_there = record {
   edited = [];
   ends = at_the_end None (refl, refl) refl;
-  calm = λ h. refl;
+  none_fails = λ h. refl;
   text_is = refl;
   changed = nothing_changes (Name (codes "a"));
 }
 
 all_of_nothing : IsOutcome (run_of (deleting All)) [] [] (told [] false)
-all_of_nothing = record { edited = []; ends = at_the_end None (refl, refl) refl; calm = λ h. refl; text_is = refl; changed = nothing_changes All }
+all_of_nothing = record { edited = []; ends = at_the_end None (refl, refl) refl; none_fails = λ h. refl; text_is = refl; changed = nothing_changes All }
 
 abbrev report : Bool → Bool → Report
 report changed failed = record { lines = []; messages = []; changed = changed; failed = failed; end = Whole }

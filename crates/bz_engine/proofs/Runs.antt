@@ -40,7 +40,7 @@ started home passes options = record {
     last = ap (last_class None) (sym (slots_alone (meaning home) passes []));
   };
   text_is = nothing_shown (is_query passes) ∙ ap (λ x0. if is_query passes then [] else text_of (left_in x0)) (sym (slots_alone (meaning home) passes []));
-  calm = λ h. refl;
+  none_fails = λ h. refl;
 }
 
 -- each chunk has bytes, and each read gives at most 8,192

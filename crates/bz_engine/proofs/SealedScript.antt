@@ -119,12 +119,12 @@ scripted_same names run s t old new before after scripted covered is done = by s
       last = laid.last ∙ last_same names is.count old.last _ _ left;
       line = laid.line;
       text = laid.text ∙ ap (λ l. before ++ (if is_query run.passes then [] else l)) (text_same names is.count is.enough old.last _ _ left);
-      calm = laid.calm;
+      none_fails = laid.none_fails;
     }
     by (scripts.Failed message) ended = record {
       ends = ended.ends;
-      fails = λ calm. fails_alone run.home run.passes s ∙ same.failed ∙ sym (fails_alone run.home run.passes t) ∙ ended.fails calm;
-      message_is = λ calm slots given. ended.message_is calm slots given ∙ ap (λ l. take 1 (flat_map failure_text l)) (said_same run.home run.passes (Some s) (Some t) same);
+      fails = λ none_fails. fails_alone run.home run.passes s ∙ same.failed ∙ sym (fails_alone run.home run.passes t) ∙ ended.fails none_fails;
+      message_is = λ none_fails slots given. ended.message_is none_fails slots given ∙ ap (λ l. take 1 (flat_map failure_text l)) (said_same run.home run.passes (Some s) (Some t) same);
       changed = ended.changed;
       line = ended.line;
       nothing = ended.nothing;

@@ -82,7 +82,7 @@ went_on v mid progress max_reads most n pieces cs read text after done on needed
   statements = done.statements ++ edited.more;
   kept = edited.kept;
   text_is = ap (λ l. l ++ after) done.text_is ∙ ap (λ l. text_after v.home v.passes done.statements ++ l) edited.appended ∙ sym edited.text;
-  calm = λ h. edited.calm h (done.calm h);
+  none_fails = λ h. edited.none_fails h (done.none_fails h);
 }
 
 -- what is told at the end of the file
@@ -117,7 +117,7 @@ ended_whole v mid max_reads pieces cs read text commands done on nothing over =
               edited = done.statements;
               ends = at_the_end None (subst (λ l. AreStatementsOf v.options.max_depth 1 l done.statements None) (sym (all rest last)) done.kept.read)
                   (told_whole (run_in v) cs done.statements v.progress done.kept);
-              calm = calm_of v pieces cs text done;
+              none_fails = calm_of v pieces cs text done;
               text_is = done.text_is;
               changed = change_kept (run_in v) cs done.statements v.progress commands done.kept;
             };
@@ -155,7 +155,7 @@ ended_fault v mid fault max_reads n pieces cs read text commands done on next gi
           (subst (λ l. AreStatementsOf v.options.max_depth 1 l done.statements (Some fault))
           (sym (next_after v mid max_reads n pieces cs read text done on next rest last))
           (give_fault v.options.max_depth v.progress.line cs done.statements (take n mid.bytes) (chunks (drop n mid.bytes ++ rest)) fault done.kept.read done.kept.line gives)) refl;
-      calm = calm_of v pieces cs text done;
+      none_fails = calm_of v pieces cs text done;
       text_is = done.text_is;
       changed = change_kept (run_in v) cs done.statements v.progress commands done.kept;
     };
@@ -173,7 +173,7 @@ pub ended_failure : (v : SessionValue) (mid : Ahead) (progress : Progress) (mess
     → IsFailed (run_in v) (take n mid.bytes) message v.progress progress [] after
     → HasEnded (record v { ahead = mid; progress = progress; failure = message }) FirstFailure (pieces ++ read) cs text
 ended_failure v mid progress message after max_reads n pieces cs read text commands done on next failed =
-    let calm : v.progress.failed ≡ false = done.calm failed.ends in
+    let none_fails : v.progress.failed ≡ false = done.none_fails failed.ends in
     record {
       outcome = record {
         each = λ rest last.
@@ -187,8 +187,8 @@ ended_failure v mid progress message after max_reads n pieces cs read text comma
                     chunks_are = all ∙ one_more cs (chunks (drop n mid.bytes ++ rest)) (take n mid.bytes);
                     read = give_statement v.options.max_depth v.progress.line cs done.statements (take n mid.bytes) failed.statement done.kept.read done.kept.line failed.read;
                   })
-                  (failed.fails calm) (ap (λ l. told_alone l progress.changed FirstFailure) (failed.message_is calm));
-              calm = calm_of v pieces cs text done;
+                  (failed.fails none_fails) (ap (λ l. told_alone l progress.changed FirstFailure) (failed.message_is none_fails));
+              none_fails = calm_of v pieces cs text done;
               text_is = done.text_is;
               changed = subst (λ b. (b ≡ true) ↔ Changes (meaning v.home) v.passes (slots_of done.statements)) (sym failed.changed)
                   (change_kept (run_in v) cs done.statements v.progress commands done.kept);
@@ -199,6 +199,6 @@ ended_failure v mid progress message after max_reads n pieces cs read text comma
         comes_next v mid max_reads n pieces cs read text done on next,
         failed.statement,
         subst (λ line. IsAnswerOf v.options.max_depth line (take n mid.bytes) (Ok (Some failed.statement))) done.kept.line failed.read,
-        failed.fails calm,
+        failed.fails none_fails,
       );
     }

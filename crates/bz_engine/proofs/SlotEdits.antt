@@ -42,11 +42,11 @@ pub laid_out : (run : Run) (s : Statement) (old new : Progress) (kept : List (Ke
     → after ≡ before ++ (if is_query run.passes then [] else text_following last (slot ∷ []))
     → (run.keep_going ≡ false → new.failed ≡ false)
     → IsLaidOut run s old new before after
-laid_out run s old new kept slot last before after ran kept_is slot_is from last_is line_is text_is calm = record {
+laid_out run s old new kept slot last before after ran kept_is slot_is from last_is line_is text_is none_fails = record {
   left = λ slots left. subst (λ k. IsLeftBy (meaning run.home) (changes run.home) (fails_on run.home) run.passes (slots ++ Some s ∷ []) k new.changed new.failed) (sym kept_is) (ran.left slots left);
   last = last_is ∙ ap (λ l. last_class l (slot ∷ [])) from ∙ ap (λ x. last_class old.last (x ∷ [])) slot_is;
   line = line_is;
   text = text_is ∙ ap (λ l. before ++ (if is_query run.passes then [] else text_following l (slot ∷ []))) from
       ∙ ap (λ x. before ++ (if is_query run.passes then [] else text_following old.last (x ∷ []))) slot_is;
-  calm = λ ends was. calm ends;
+  none_fails = λ ends was. none_fails ends;
 }

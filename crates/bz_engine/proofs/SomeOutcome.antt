@@ -183,10 +183,10 @@ some_outcome run file = at_keep run.keep_going refl (some_failure run.home run.p
     told_same (Some e) = refl
 
     whole : (run.keep_going ≡ false → some_failure run.home run.passes ss ≡ false) → (text : List ℕ) × (told : Told) × IsOutcome run file text told
-    whole calm = (
+    whole none_fails = (
       text_after run.home run.passes ss,
       told_of run.home run.passes ss fault (changed ss).0,
-      record { edited = ss; ends = at_the_end fault read (told_same fault); calm = calm; text_is = refl; changed = told_changed fault },
+      record { edited = ss; ends = at_the_end fault read (told_same fault); none_fails = none_fails; text_is = refl; changed = told_changed fault },
     )
 
     cut : run.keep_going ≡ false → some_failure run.home run.passes ss ≡ true → (text : List ℕ) × (told : Told) × IsOutcome run file text told
@@ -199,7 +199,7 @@ some_outcome run file = at_keep run.keep_going refl (some_failure run.home run.p
             edited = first.before;
             ends = at_a_failure first.statement ends (record { front = at.front; after = at.after; chunks_are = at.are; read = at.read })
                 (fails_alone run.home run.passes first.statement ∙ first.passes) refl;
-            calm = λ h. failure_each run.home run.passes first.before ∙ first.none;
+            none_fails = λ h. failure_each run.home run.passes first.before ∙ first.none;
             text_is = refl;
             changed = (changed first.before).1;
           },
@@ -207,5 +207,5 @@ some_outcome run file = at_keep run.keep_going refl (some_failure run.home run.p
 
     at_keep : (k : Bool) → run.keep_going ≡ k → (f : Bool) → some_failure run.home run.passes ss ≡ f → (text : List ℕ) × (told : Told) × IsOutcome run file text told
     at_keep true goes f is = whole (λ ends. absurd (false≢true (sym ends ∙ goes)))
-    at_keep false ends false calm = whole (λ e. calm)
+    at_keep false ends false none_fails = whole (λ e. none_fails)
     at_keep false ends true fails = cut ends fails

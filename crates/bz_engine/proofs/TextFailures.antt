@@ -10,7 +10,7 @@ use Rattle.bz_attribute.specs.declared.done.Done.{Done}
 use Rattle.bz_attribute.specs.declared.done.Note.TheVariants.{Missing, NoAttribute}
 use Rattle.bz_rule.specs.Comment.{comment_note}
 use Rattle.bz_rule.specs.Print.{printed, value_text}
-use Rattle.bz_attribute.specs.Effects.{done, is_absent}
+use Rattle.bz_attribute.specs.Effects.{done, absent_note}
 use Rattle.bz_attribute.specs.Rules.{Rule, first_named, kind_text, name_in, rule_of, string_value, value}
 use Rattle.bz_attribute.specs.Texts.{home_text, shown_text}
 use Rattle.bz_canonical.specs.Canonical.{HasName, IsNameless, rule_args}
@@ -30,16 +30,16 @@ use Rattle.bz_token.specs.Common.{map_or}
 abbrev failure : List ℕ → Done
 failure attr = record { changed = false; line = None; note = Some (NoAttribute attr) }
 
-absent_note : (attr : List ℕ) (args : List Segment) → first_named attr args ≡ None → is_absent attr args ≡ Some (NoAttribute attr)
-absent_note attr args none = ap (λ b. if b then None else Some (NoAttribute attr)) (none_has attr args none)
+absent_notes : (attr : List ℕ) (args : List Segment) → first_named attr args ≡ None → absent_note attr args ≡ Some (NoAttribute attr)
+absent_notes attr args none = ap (λ b. if b then None else Some (NoAttribute attr)) (none_has attr args none)
 
 fails_of_args : (command : Command) (attr : List ℕ) (home : Package) (args : List Segment) → needed command ≡ Some attr → first_named attr args ≡ None → args_done command home args ≡ failure attr
 fails_of_args (Comment (Attribute a) text) attr home args is none =
     let same : a ≡ attr = cc in
-    ap (λ n. done (is_absent n args) true) same ∙ ap (λ n. done n true) (absent_note attr args none)
+    ap (λ n. done (absent_note n args) true) same ∙ ap (λ n. done n true) (absent_notes attr args none)
 fails_of_args (Comment (Value a value) text) attr home args is none =
     let same : a ≡ attr = cc in
-    ap (λ n. done (comment_note home n value args) true) same ∙ rw (absent_note attr args none) refl
+    ap (λ n. done (comment_note home n value args) true) same ∙ rw (absent_notes attr args none) refl
 fails_of_args _ attr home args is none = absurd cc
 
 fails_of_rule : (command : Command) (attr : List ℕ) (home : Package) (s : Statement) (r : Rule) → needed command ≡ Some attr → rule_of s.nodes ≡ Some r → IsWithout attr s → done_of command home (Some s) ≡ failure attr

@@ -18,7 +18,7 @@ pub record AreDone (run : Run) (pieces front : List (List ℕ)) (statements : Li
   pub bytes_are : concat pieces ≡ concat front ++ left
   pub chunks_are : (rest : List ℕ) → (IsTrue (ends pieces) → rest ≡ []) → chunks (concat pieces ++ rest) ≡ front ++ chunks (left ++ rest)
   pub read : AreStatementsOf run.max_depth 1 front statements None
-  pub calm : run.keep_going ≡ false → some_failure run.home run.passes statements ≡ false
+  pub none_fails : run.keep_going ≡ false → some_failure run.home run.passes statements ≡ false
 
 -- After these reads another was needed: none of them met the end, and these bytes, which are left after the chunks that are
 -- done, leave the next chunk open.

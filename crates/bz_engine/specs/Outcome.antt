@@ -112,7 +112,7 @@ pub data RunEnds (run : Run) (file : List ℕ) (edited : List Statement) (told :
 pub record IsOutcome (run : Run) (file text : List ℕ) (told : Told) : Type 0 where
   pub edited : List Statement
   pub ends : RunEnds run file edited told
-  pub calm : run.keep_going ≡ false → some_failure run.home run.passes edited ≡ false
+  pub none_fails : run.keep_going ≡ false → some_failure run.home run.passes edited ≡ false
   pub text_is : text ≡ text_after run.home run.passes edited
   pub changed : (told.changed ≡ true) ↔ Changes (meaning run.home) run.passes (slots_of edited)
 

@@ -66,7 +66,7 @@ pub record HasDone (v : SessionValue) (pieces cs : List (List ℕ)) (text : List
   pub statements : List Statement
   pub kept : IsKeptOf (run_in v) cs statements v.progress
   pub text_is : text ≡ text_after v.home v.passes statements
-  pub calm : v.options.keep_going ≡ false → v.progress.failed ≡ false
+  pub none_fails : v.options.keep_going ≡ false → v.progress.failed ≡ false
 
 -- all that was kept
 abbrev pub told_of_progress : Package → Script → Progress → Told

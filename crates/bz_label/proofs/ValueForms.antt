@@ -8,7 +8,7 @@ use Rattle.bz_token.specs.declared.scan_string.Opening.{Opening}
 use Rattle.bz_token.specs.declared.scan_string.Quotes.{Quotes}
 use Rattle.bz_token.specs.Common.{first_of, map_or}
 use Rattle.bz_token.specs.Groups.{grouped_from}
-use Rattle.bz_token.specs.Strings.{is_byte, is_quote, are_two, opens_after, opening, closing_row, escape_takes, inside, units, but_last, has_closing, has_break, is_one_string, is_string}
+use Rattle.bz_token.specs.Strings.{is_byte, is_quote, are_two, opens_after, opening, quote_count, escape_takes, inside, units, but_last, has_closing, has_break, is_one_string, is_string}
 use Rattle.bz_token.proofs.CutStrings.{grouped_joins, grouped_apart}
 use Rattle.bz_token.proofs.Openings.{opens_r, opens_rb, opens_b, opens_br, opens_plain}
 use Rattle.bz_token.proofs.Units.{FirstUnit, byte, feed, return_feed, alone, return_alone, return_other, other, first_unit}
@@ -21,7 +21,7 @@ of q l = record { byte = q; long = l }
 
 -- closing quotes stand first among these units
 abbrev starts : ℕ → Bool → List (List ℕ) → Bool
-starts q l us = starts_with bytes_eq us (replicate (closing_row l) (q ∷ []))
+starts q l us = starts_with bytes_eq us (replicate (quote_count l) (q ∷ []))
 
 abbrev closed : ℕ → Bool → List (List ℕ) → Bool
 closed q l us = has_closing (of q l) us && not (has_closing (of q l) (but_last us) || has_break (of q l) (but_last us))
@@ -30,7 +30,7 @@ closed q l us = has_closing (of q l) us && not (has_closing (of q l) (but_last u
 abbrev until : ℕ → Bool → List (List ℕ) → Option (List (List ℕ))
 until q l [] = None
 until q l (u ∷ us) =
-    if starts q l (u ∷ us) then (if length (u ∷ us) == closing_row l then Some [] else None)
+    if starts q l (u ∷ us) then (if length (u ∷ us) == quote_count l then Some [] else None)
     else (if not l && is_byte 10 u then None else option_map (λ inner. u ∷ inner) (until q l us))
 
 abbrev before_closing : Bool → ℕ → List (List ℕ) → Option (List (List ℕ))
@@ -87,7 +87,7 @@ until_long q (u ∷ v ∷ w ∷ x ∷ xs) = elim (cases_Bool (starts q true (u �
   | inr differs ↦ rw differs (one_more (closed q true (v ∷ w ∷ x ∷ xs)) 3 u (v ∷ w ∷ x ∷ xs) (omega arith) ∙ ap (option_map (λ inner. u ∷ inner)) (until_long q (v ∷ w ∷ x ∷ xs)))
 ]
 
-until_is : (q : ℕ) (l : Bool) (us : List (List ℕ)) → before_closing (closed q l us) (closing_row l) us ≡ until q l us
+until_is : (q : ℕ) (l : Bool) (us : List (List ℕ)) → before_closing (closed q l us) (quote_count l) us ≡ until q l us
 until_is q false us = until_short q us
 until_is q true us = until_long q us
 
@@ -155,7 +155,7 @@ abbrev onto : Option ℕ → Option (List ℕ) → Option (List ℕ)
 onto v o = option_and_then (λ b. option_map (λ bs. b ∷ bs) o) v
 
 abbrev Same : Bool → ℕ → Bool → List ℕ → Type 0
-Same raw q l bs = inner_value raw (replicate (closing_row l) q) bs ≡ worth raw (until q l (units bs))
+Same raw q l bs = inner_value raw (replicate (quote_count l) q) bs ≡ worth raw (until q l (units bs))
 
 valued : (raw : Bool) (u : List ℕ) (v : Option ℕ) (o : Option (List (List ℕ))) → is_byte 13 u ≡ false → unit_value raw u ≡ v → worth raw (option_map (λ inner. u ∷ inner) o) ≡ onto v (worth raw o)
 valued raw u None None never is = refl
@@ -165,29 +165,29 @@ valued raw u v (Some us) never is =
 
 until_next : (q : ℕ) (l : Bool) (u : List ℕ) (us : List (List ℕ)) → starts q l (u ∷ us) ≡ false → (not l && is_byte 10 u) ≡ false → until q l (u ∷ us) ≡ option_map (λ inner. u ∷ inner) (until q l us)
 until_next q l u us never no_line =
-    ap (λ t. if t then (if length (u ∷ us) == closing_row l then Some [] else None) else (if not l && is_byte 10 u then None else option_map (λ inner. u ∷ inner) (until q l us))) never
+    ap (λ t. if t then (if length (u ∷ us) == quote_count l then Some [] else None) else (if not l && is_byte 10 u then None else option_map (λ inner. u ∷ inner) (until q l us))) never
     ∙ ap (λ t. if t then None else option_map (λ inner. u ∷ inner) (until q l us)) no_line
 
 -- a step over so many bytes
-stepped : (raw : Bool) (q : ℕ) (l : Bool) (text tail : List ℕ) (k : ℕ) (v : Option ℕ) → 0 < length text → starts_with nat_eq text (replicate (closing_row l) q) ≡ false → first_len text ≡ k → drop k text ≡ tail
-    → value_in raw (length (replicate (closing_row l) q) == 1) (take k text) ≡ v → inner_value raw (replicate (closing_row l) q) text ≡ onto v (inner_value raw (replicate (closing_row l) q) tail)
+stepped : (raw : Bool) (q : ℕ) (l : Bool) (text tail : List ℕ) (k : ℕ) (v : Option ℕ) → 0 < length text → starts_with nat_eq text (replicate (quote_count l) q) ≡ false → first_len text ≡ k → drop k text ≡ tail
+    → value_in raw (length (replicate (quote_count l) q) == 1) (take k text) ≡ v → inner_value raw (replicate (quote_count l) q) text ≡ onto v (inner_value raw (replicate (quote_count l) q) tail)
 stepped raw q l text tail k v some never len rest is =
-    step raw (replicate (closing_row l) q) text some never
-    ∙ ap₂ (λ (x : Option ℕ) (ys : List ℕ). onto x (inner_value raw (replicate (closing_row l) q) ys))
-    (ap (λ n. value_in raw (length (replicate (closing_row l) q) == 1) (take n text)) len ∙ is)
+    step raw (replicate (quote_count l) q) text some never
+    ∙ ap₂ (λ (x : Option ℕ) (ys : List ℕ). onto x (inner_value raw (replicate (quote_count l) q) ys))
+    (ap (λ n. value_in raw (length (replicate (quote_count l) q) == 1) (take n text)) len ∙ is)
     (ap (λ n. drop n text) len ∙ rest)
 
 no_newline_in : (raw short : Bool) (u : List ℕ) → is_newline u ≡ false → value_in raw short u ≡ old_value raw u
 no_newline_in raw short u never = ap (λ t. if short && t then None else old_value raw u) never ∙ ap (λ t. if t then None else old_value raw u) (and_false short)
 
 -- a unit that is an escape
-through : (raw : Bool) (q : ℕ) (l : Bool) (text tail v : List ℕ) (k : ℕ) → is_quote q ≡ true → 0 < length text → starts_with nat_eq text (replicate (closing_row l) q) ≡ false → first_len text ≡ k → take k text ≡ 92 ∷ v → drop k text ≡ tail
+through : (raw : Bool) (q : ℕ) (l : Bool) (text tail v : List ℕ) (k : ℕ) → is_quote q ≡ true → 0 < length text → starts_with nat_eq text (replicate (quote_count l) q) ≡ false → first_len text ≡ k → take k text ≡ 92 ∷ v → drop k text ≡ tail
     → units text ≡ (92 ∷ v) ∷ units tail → is_newline (92 ∷ v) ≡ false → old_value raw (92 ∷ v) ≡ unit_value raw (92 ∷ v) → Same raw q l tail → Same raw q l text
 through raw q l text tail v k quote some never len front rest are no_line same again =
     stepped raw q l text tail k (unit_value raw (92 ∷ v)) some never len rest
-    (ap (value_in raw (length (replicate (closing_row l) q) == 1)) front ∙ no_newline_in raw (length (replicate (closing_row l) q) == 1) (92 ∷ v) no_line ∙ same)
+    (ap (value_in raw (length (replicate (quote_count l) q) == 1)) front ∙ no_newline_in raw (length (replicate (quote_count l) q) == 1) (92 ∷ v) no_line ∙ same)
     ∙ ap (onto (unit_value raw (92 ∷ v))) again
-    ∙ sym (ap (λ us. worth raw (until q l us)) are ∙ ap (worth raw) (until_next q l (92 ∷ v) (units tail) (sym (rows q (closing_row l) text (quote_plain q quote) ∙ ap (starts q l) are) ∙ never) (and_false (not l)))
+    ∙ sym (ap (λ us. worth raw (until q l us)) are ∙ ap (worth raw) (until_next q l (92 ∷ v) (units tail) (sym (rows q (quote_count l) text (quote_plain q quote) ∙ ap (starts q l) are) ∙ never) (and_false (not l)))
     ∙ valued raw (92 ∷ v) (unit_value raw (92 ∷ v)) (until q l (units tail)) refl refl)
 
 -- a carriage return that no newline follows
@@ -205,7 +205,7 @@ shape q l u false t false (Some us) inner h never = ap (λ (us : List (List ℕ)
     some_is x y e = cc
 
 front : (q : ℕ) (l : Bool) (u : List ℕ) (us inner : List (List ℕ)) → until q l (u ∷ us) ≡ Some inner → is_byte 10 u ≡ false → map_or false (is_byte 10) (first_of inner) ≡ false
-front q l u us inner h never = shape q l u (starts q l (u ∷ us)) (length (u ∷ us) == closing_row l) (not l && is_byte 10 u) (until q l us) inner h never
+front q l u us inner h never = shape q l u (starts q l (u ∷ us)) (length (u ∷ us) == quote_count l) (not l && is_byte 10 u) (until q l us) inner h never
 
 same_first : (b c : ℕ) (bs cs : List ℕ) → b ∷ bs ≡ c ∷ cs → b ≡ c
 same_first b c bs cs e = cc
@@ -225,7 +225,7 @@ byte_valued raw b None never = refl
 byte_valued raw b (Some us) never = ap (λ t. if t then values raw us else onto (Some b) (values raw us)) (never us refl)
 
 -- one byte
-single : (raw : Bool) (q : ℕ) (l : Bool) (b : ℕ) (bs : List ℕ) → is_quote q ≡ true → (b == 92) ≡ false → starts_with nat_eq (b ∷ bs) (replicate (closing_row l) q) ≡ false → first_len (b ∷ bs) ≡ 1
+single : (raw : Bool) (q : ℕ) (l : Bool) (b : ℕ) (bs : List ℕ) → is_quote q ≡ true → (b == 92) ≡ false → starts_with nat_eq (b ∷ bs) (replicate (quote_count l) q) ≡ false → first_len (b ∷ bs) ≡ 1
     → ((inner : List (List ℕ)) → until q l (units bs) ≡ Some inner → (is_byte 13 (b ∷ []) && map_or false (is_byte 10) (first_of inner)) ≡ false) → Same raw q l bs → Same raw q l (b ∷ bs)
 single raw q l b bs quote plain never len no_feed again = elim (cases_Bool (not l && b == 10)) [
   | inl ends ↦
@@ -242,27 +242,27 @@ single raw q l b bs quote plain never len no_feed again = elim (cases_Bool (not 
     are = one_unit b bs plain
 
     apart : starts q l ((b ∷ []) ∷ units bs) ≡ false
-    apart = sym (rows q (closing_row l) (b ∷ bs) (quote_plain q quote) ∙ ap (starts q l) are) ∙ never
+    apart = sym (rows q (quote_count l) (b ∷ bs) (quote_plain q quote) ∙ ap (starts q l) are) ∙ never
 
     broken_at : not l ≡ true → (b == 10) ≡ true → until q l ((b ∷ []) ∷ units bs) ≡ None
     broken_at short line =
-        ap (λ t. if t then (if length ((b ∷ []) ∷ units bs) == closing_row l then Some [] else None) else (if not l && is_byte 10 (b ∷ []) then None else option_map (λ inner. (b ∷ []) ∷ inner) (until q l (units bs)))) apart
+        ap (λ t. if t then (if length ((b ∷ []) ∷ units bs) == quote_count l then Some [] else None) else (if not l && is_byte 10 (b ∷ []) then None else option_map (λ inner. (b ∷ []) ∷ inner) (until q l (units bs)))) apart
         ∙ ap₂ (λ s t. if s && (t && true) then None else option_map (λ inner. (b ∷ []) ∷ inner) (until q l (units bs))) short line
 
     kept : (l : Bool) → (not l && b == 10) ≡ false → (not l && is_byte 10 (b ∷ [])) ≡ false
     kept true goes = refl
     kept false goes = ap (λ t. t && true) goes
 
-    broken : (l : Bool) → not l ≡ true → (b == 10) ≡ true → value_in raw (length (replicate (closing_row l) q) == 1) (b ∷ []) ≡ None
+    broken : (l : Bool) → not l ≡ true → (b == 10) ≡ true → value_in raw (length (replicate (quote_count l) q) == 1) (b ∷ []) ≡ None
     broken true short line = absurd (false≢true short)
     broken false short line = rw line refl
 
-    worth_of : (l : Bool) → (not l && b == 10) ≡ false → value_in raw (length (replicate (closing_row l) q) == 1) (b ∷ []) ≡ Some b
+    worth_of : (l : Bool) → (not l && b == 10) ≡ false → value_in raw (length (replicate (quote_count l) q) == 1) (b ∷ []) ≡ Some b
     worth_of true goes = rw plain refl
     worth_of false goes = rw (goes, and_false (b == 13), plain) refl
 
 -- a carriage return and a newline
-pair : (raw : Bool) (q : ℕ) (l : Bool) (cs : List ℕ) → is_quote q ≡ true → starts_with nat_eq (13 ∷ 10 ∷ cs) (replicate (closing_row l) q) ≡ false → Same raw q l cs → Same raw q l (13 ∷ 10 ∷ cs)
+pair : (raw : Bool) (q : ℕ) (l : Bool) (cs : List ℕ) → is_quote q ≡ true → starts_with nat_eq (13 ∷ 10 ∷ cs) (replicate (quote_count l) q) ≡ false → Same raw q l cs → Same raw q l (13 ∷ 10 ∷ cs)
 pair raw q l cs quote never again =
     stepped raw q l (13 ∷ 10 ∷ cs) cs 2 (found l) (omega arith) never (two cs) refl (in_both l)
     ∙ ap (onto (found l)) again
@@ -275,7 +275,7 @@ pair raw q l cs quote never again =
     two [] = refl
     two (c ∷ cs) = refl
 
-    in_both : (l : Bool) → value_in raw (length (replicate (closing_row l) q) == 1) (13 ∷ 10 ∷ []) ≡ found l
+    in_both : (l : Bool) → value_in raw (length (replicate (quote_count l) q) == 1) (13 ∷ 10 ∷ []) ≡ found l
     in_both true = refl
     in_both false = refl
 
@@ -283,7 +283,7 @@ pair raw q l cs quote never again =
     are = one_unit 13 (10 ∷ cs) refl ∙ ap (λ us. (13 ∷ []) ∷ us) (one_unit 10 cs refl)
 
     apart : starts q l ((13 ∷ []) ∷ (10 ∷ []) ∷ units cs) ≡ false
-    apart = sym (rows q (closing_row l) (13 ∷ 10 ∷ cs) (quote_plain q quote) ∙ ap (starts q l) are) ∙ never
+    apart = sym (rows q (quote_count l) (13 ∷ 10 ∷ cs) (quote_plain q quote) ∙ ap (starts q l) are) ∙ never
 
     no_quotes : (l : Bool) → starts q l ((10 ∷ []) ∷ units cs) ≡ false
     no_quotes true = ap (λ t. (t && true) && starts_with bytes_eq (units cs) ((q ∷ []) ∷ (q ∷ []) ∷ [])) (quote_line q quote)
@@ -303,7 +303,7 @@ two_bytes : (cs : List ℕ) (c : ℕ) → (c == 13) ≡ false → first_len (92 
 two_bytes [] c never = refl
 two_bytes (d ∷ ds) c never = rw never refl
 
-escape : (raw : Bool) (q : ℕ) (l : Bool) (n : ℕ) (text xs : List ℕ) → is_quote q ≡ true → ((ys : List ℕ) → length ys ≤ n → Same raw q l ys) → length text ≤ suc n → text ≡ 92 ∷ xs → starts_with nat_eq text (replicate (closing_row l) q) ≡ false → FirstUnit text → Same raw q l text
+escape : (raw : Bool) (q : ℕ) (l : Bool) (n : ℕ) (text xs : List ℕ) → is_quote q ≡ true → ((ys : List ℕ) → length ys ≤ n → Same raw q l ys) → length text ≤ suc n → text ≡ 92 ∷ xs → starts_with nat_eq text (replicate (quote_count l) q) ≡ false → FirstUnit text → Same raw q l text
 escape raw q l n text xs quote again fits begins never (byte b bs is plain are) =
     absurd (false≢true (sym plain ∙ ap (λ z. z == 92) (sym (same_first 92 b xs bs (sym begins ∙ is)))))
 escape raw q l n text xs quote again fits begins never (feed bs is are) =
@@ -312,9 +312,9 @@ escape raw q l n text xs quote again fits begins never (return_feed bs is are) =
     through raw q l text bs (13 ∷ 10 ∷ []) 3 quote (omega (arith, ap length is)) never (ap first_len is) (ap (take 3) is) (ap (drop 3) is) are refl refl (again bs (omega (arith, ap length is, fits)))
 escape raw q l n text xs quote again fits begins never (alone is) =
     stepped raw q l text [] 1 None (omega (arith, ap length is)) never (ap first_len is) (ap (drop 1) is)
-    (ap (λ (t : List ℕ). value_in raw (length (replicate (closing_row l) q) == 1) (take 1 t)) is ∙ no_newline_in raw (length (replicate (closing_row l) q) == 1) (92 ∷ []) refl)
+    (ap (λ (t : List ℕ). value_in raw (length (replicate (quote_count l) q) == 1) (take 1 t)) is ∙ no_newline_in raw (length (replicate (quote_count l) q) == 1) (92 ∷ []) refl)
     ∙ sym (ap (λ (t : List ℕ). worth raw (until q l (units t))) is
-    ∙ ap (worth raw) (until_next q l (92 ∷ []) [] (sym (rows q (closing_row l) text (quote_plain q quote) ∙ ap (λ (t : List ℕ). starts q l (units t)) is) ∙ never) (and_false (not l))))
+    ∙ ap (worth raw) (until_next q l (92 ∷ []) [] (sym (rows q (quote_count l) text (quote_plain q quote) ∙ ap (λ (t : List ℕ). starts q l (units t)) is) ∙ never) (and_false (not l))))
 escape raw q l n text xs quote again fits begins never (return_alone is) =
     through raw q l text [] (13 ∷ []) 2 quote (omega (arith, ap length is)) never (ap first_len is) (ap (take 2) is) (ap (drop 2) is) (ap units is) refl refl (again [] (omega arith))
 escape raw q l n text xs quote again fits begins never (return_other d ds is no_line are) =
@@ -326,7 +326,7 @@ escape raw q l n text xs quote again fits begins never (other c cs is no_line no
     through raw q l text cs (c ∷ []) 2 quote (omega (arith, ap length is)) never (ap first_len is ∙ two_bytes cs c no_return) (ap (take 2) is) (ap (drop 2) is) are refl refl (again cs (omega (arith, ap length is, fits)))
 
 -- any other byte
-plain_byte : (raw : Bool) (q : ℕ) (l : Bool) (n b : ℕ) (bs : List ℕ) → is_quote q ≡ true → ((ys : List ℕ) → length ys ≤ n → Same raw q l ys) → length (b ∷ bs) ≤ suc n → (b == 92) ≡ false → starts_with nat_eq (b ∷ bs) (replicate (closing_row l) q) ≡ false → Same raw q l (b ∷ bs)
+plain_byte : (raw : Bool) (q : ℕ) (l : Bool) (n b : ℕ) (bs : List ℕ) → is_quote q ≡ true → ((ys : List ℕ) → length ys ≤ n → Same raw q l ys) → length (b ∷ bs) ≤ suc n → (b == 92) ≡ false → starts_with nat_eq (b ∷ bs) (replicate (quote_count l) q) ≡ false → Same raw q l (b ∷ bs)
 plain_byte raw q l n b [] quote again fits plain never = single raw q l b [] quote plain never refl (λ inner h. absurd (cc)) (again [] (omega arith))
 plain_byte raw q l n b (c ∷ cs) quote again fits plain never = elim (cases_Bool (b == 13 && c == 10)) [
   | inl both ↦
@@ -334,7 +334,7 @@ plain_byte raw q l n b (c ∷ cs) quote again fits plain never = elim (cases_Boo
       let e : 13 ≡ b = sym (eqb-true b 13 parts.0) in
       let f : 10 ≡ c = sym (eqb-true c 10 parts.1) in
       subst (λ x. Same raw q l (x ∷ c ∷ cs)) e (subst (λ y. Same raw q l (13 ∷ y ∷ cs)) f
-      (pair raw q l cs quote (ap₂ (λ x y. starts_with nat_eq (x ∷ y ∷ cs) (replicate (closing_row l) q)) e f ∙ never) (again cs (omega (arith, fits)))))
+      (pair raw q l cs quote (ap₂ (λ x y. starts_with nat_eq (x ∷ y ∷ cs) (replicate (quote_count l) q)) e f ∙ never) (again cs (omega (arith, fits)))))
   | inr apart ↦ single raw q l b (c ∷ cs) quote plain never (len cs apart) (feeds apart) (again (c ∷ cs) (omega (arith, fits)))
 ]
   where
@@ -377,7 +377,7 @@ three_quotes raw q ds quote = by_rest ds
         let none : until q true ((q ∷ []) ∷ (q ∷ []) ∷ (q ∷ []) ∷ units (d ∷ ds)) ≡ None = rw (quote_is q quote, more) refl in
         rw (quote_is q quote, and_false (not (length (q ∷ q ∷ q ∷ d ∷ ds) == 0))) (sym (ap (λ us. worth raw (until q true us)) (are (d ∷ ds)) ∙ ap (worth raw) none))
 
-at_quotes : (raw : Bool) (q : ℕ) (l : Bool) (b : ℕ) (bs : List ℕ) → is_quote q ≡ true → starts_with nat_eq (b ∷ bs) (replicate (closing_row l) q) ≡ true → ended_at (replicate (closing_row l) q) (b ∷ bs) ≡ worth raw (until q l (units (b ∷ bs)))
+at_quotes : (raw : Bool) (q : ℕ) (l : Bool) (b : ℕ) (bs : List ℕ) → is_quote q ≡ true → starts_with nat_eq (b ∷ bs) (replicate (quote_count l) q) ≡ true → ended_at (replicate (quote_count l) q) (b ∷ bs) ≡ worth raw (until q l (units (b ∷ bs)))
 at_quotes raw q false b bs quote h =
     let e : q ≡ b = eqb-true q b (and_parts (q == b) true h).0 in
     subst (λ x. ended_at (q ∷ []) (x ∷ bs) ≡ worth raw (until q false (units (x ∷ bs)))) e (one_quote raw q bs quote)
@@ -397,8 +397,8 @@ at_quotes raw q true b (c ∷ d ∷ ds) quote h =
 inside_is : (raw : Bool) (q : ℕ) (l : Bool) (n : ℕ) (bs : List ℕ) → is_quote q ≡ true → length bs ≤ n → Same raw q l bs
 inside_is raw q l n [] quote fits = refl
 inside_is raw q l zero (b ∷ bs) quote fits = absurd (omega arith)
-inside_is raw q l (suc n) (b ∷ bs) quote fits = elim (cases_Bool (starts_with nat_eq (b ∷ bs) (replicate (closing_row l) q))) [
-  | inl ends ↦ shut raw (replicate (closing_row l) q) (b ∷ bs) ends ∙ at_quotes raw q l b bs quote ends
+inside_is raw q l (suc n) (b ∷ bs) quote fits = elim (cases_Bool (starts_with nat_eq (b ∷ bs) (replicate (quote_count l) q))) [
+  | inl ends ↦ shut raw (replicate (quote_count l) q) (b ∷ bs) ends ∙ at_quotes raw q l b bs quote ends
   | inr never ↦ elim (cases_Bool (b == 92)) [
     | inl slash ↦ escape raw q l n (b ∷ bs) bs quote (λ ys less. inside_is raw q l n ys quote less) fits (ap (λ z. z ∷ bs) (eqb-true b 92 slash)) never (first_unit b bs)
     | inr plain ↦ plain_byte raw q l n b bs quote (λ ys less. inside_is raw q l n ys quote less) fits plain never
@@ -430,18 +430,18 @@ two_same q (a ∷ []) = ap (λ t. t && false) (same_number q a)
 two_same q (a ∷ b ∷ bs) = ap₂ (λ s t. s && t) (same_number q a) (sym (and_true (q == b)) ∙ same_number q b)
 
 -- the quotes after a prefix, of which what stands inside has this value
-opened_inside : (raw : Bool) (q : ℕ) (bs : List ℕ) (l : Bool) → is_quote q ≡ true → are_two q bs ≡ l → opened_value raw (q ∷ bs) ≡ inner_value raw (replicate (closing_row l) q) (drop (closing_row l - 1) bs)
+opened_inside : (raw : Bool) (q : ℕ) (bs : List ℕ) (l : Bool) → is_quote q ≡ true → are_two q bs ≡ l → opened_value raw (q ∷ bs) ≡ inner_value raw (replicate (quote_count l) q) (drop (quote_count l - 1) bs)
 opened_inside raw q bs true quote two = rw (quote, two_same q bs, two) refl
 opened_inside raw q bs false quote two = rw (quote, two_same q bs, two) refl
 
 worth_inside : (raw : Bool) (q : ℕ) (bs : List ℕ) (l : Bool) → is_quote q ≡ true → are_two q bs ≡ l
-    → opened_value raw (q ∷ bs) ≡ (if closed q l (units (drop (closing_row l - 1) bs)) then values raw (take (length (units (drop (closing_row l - 1) bs)) - closing_row l) (units (drop (closing_row l - 1) bs))) else None)
+    → opened_value raw (q ∷ bs) ≡ (if closed q l (units (drop (quote_count l - 1) bs)) then values raw (take (length (units (drop (quote_count l - 1) bs)) - quote_count l) (units (drop (quote_count l - 1) bs))) else None)
 worth_inside raw q bs l quote two =
-    let us = units (drop (closing_row l - 1) bs) in
+    let us = units (drop (quote_count l - 1) bs) in
     opened_inside raw q bs l quote two
-    ∙ inside_is raw q l (length (drop (closing_row l - 1) bs)) (drop (closing_row l - 1) bs) quote (omega arith)
+    ∙ inside_is raw q l (length (drop (quote_count l - 1) bs)) (drop (quote_count l - 1) bs) quote (omega arith)
     ∙ ap (worth raw) (sym (until_is q l us))
-    ∙ sym (chosen raw (closed q l us) (closing_row l) us)
+    ∙ sym (chosen raw (closed q l us) (quote_count l) us)
 
 letter_apart : (q c : ℕ) → is_quote q ≡ true → is_quote c ≡ false → (q == c) ≡ false
 letter_apart q c quote none = grind (arith, nat_tests)

@@ -5,8 +5,8 @@ use Rattle.bz_label.specs.declared.arguments.Attributes.{Attributes}
 use Rattle.bz_label.specs.declared.arguments.Attributes.TheVariants.{Every, Named}
 use Rattle.bz_label.specs.declared.arguments.Setting.{Setting}
 use Rattle.bz_label.specs.declared.arguments.Setting.TheVariants.{ToKind, ToValues}
-use Rattle.bz_label.specs.declared.arguments.Moved.{Moved}
-use Rattle.bz_label.specs.declared.arguments.Moved.TheVariants.{All, Values}
+use Rattle.bz_label.specs.declared.arguments.Chosen.{Chosen}
+use Rattle.bz_label.specs.declared.arguments.Chosen.TheVariants.{All, Values}
 use Rattle.bz_label.specs.declared.arguments.Commented.{Commented}
 use Rattle.bz_label.specs.declared.arguments.Commented.TheVariants.{Rule, Attribute, Value}
 use Rattle.bz_label.specs.Names.{is_identifier, is_kind}
@@ -24,7 +24,7 @@ abbrev pub is_setting : Setting → Bool
 is_setting (ToKind kind) = is_kind kind
 is_setting (ToValues attr values) = is_identifier attr && not (length values == 0)
 
-abbrev pub is_moved : Moved → Bool
+abbrev pub is_moved : Chosen → Bool
 is_moved All = true
 is_moved (Values values) = not (length values == 0)
 
@@ -55,7 +55,7 @@ abbrev pub setting_passes : (List ℕ → Bool) → Setting → Bool
 setting_passes test (ToKind kind) = test kind
 setting_passes test (ToValues attr values) = test attr && list_all test values
 
-abbrev pub moved_passes : (List ℕ → Bool) → Moved → Bool
+abbrev pub moved_passes : (List ℕ → Bool) → Chosen → Bool
 moved_passes test All = true
 moved_passes test (Values values) = list_all test values
 

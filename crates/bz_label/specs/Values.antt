@@ -3,7 +3,7 @@
 -- an escape: a backslash and what it takes along (stop 8, `units`). `Opening`, of `src/scan_string.rt` of
 -- bz_token, has the number of prefix letters and the quotes.
 -- Begin with `value_of` and `quoted`.
--- Of later stops: 8 `closing_row`, `inside`, `is_byte`, `is_string`, `opening`.
+-- Of later stops: 8 `quote_count`, `inside`, `is_byte`, `is_string`, `opening`.
 use Rattle.std.specs.Prelude.{ℕ, ◌-◌, ◌≡◌, ◌⊎◌, not, ◌==◌, List, [], ◌∷◌, ◌++◌, Bool, true, false, ◌&&◌, if◌then◌else◌, Option, Some, None, option_map, codes, length, take, bytes_eq, option_and_then}
 use Rattle.std.specs.List.{list_all, flat_map}
 use Rattle.bz_token.specs.declared.token.Kind.{Kind}
@@ -11,11 +11,11 @@ use Rattle.bz_token.specs.declared.token.Kind.TheVariants.{String}
 use Rattle.bz_token.specs.declared.token.Token.{Token}
 use Rattle.bz_token.specs.declared.scan_string.Opening.{Opening}
 use Rattle.bz_token.specs.Common.{first_of, map_or}
-use Rattle.bz_token.specs.Strings.{is_byte, is_quote, opening, closing_row, inside, is_string}
+use Rattle.bz_token.specs.Strings.{is_byte, is_quote, opening, quote_count, inside, is_string}
 
 -- the units between the quotes of a literal
 abbrev pub content : Opening → List ℕ → List (List ℕ)
-content o text = take (length (inside o text) - closing_row o.quotes.long) (inside o text)
+content o text = take (length (inside o text) - quote_count o.quotes.long) (inside o text)
 
 -- The escapes that have a value, a b f n r t v, backslash and both quotes: what stands after the backslash,
 -- and the value. No other has one, as octal, `x`, `u` and a backslash before a newline.

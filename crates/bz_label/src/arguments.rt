@@ -21,7 +21,7 @@ pub enum Setting {
 
 /// The elements that `move` moves; the definition of `remove` chooses elements by it too.
 #[derive(Drop)]
-pub enum Moved {
+pub enum Chosen {
     /// All of them, written `*`.
     All,
     Values(Seq<Text>),

@@ -21,7 +21,7 @@ mod target;
 mod value;
 mod words;
 
-pub use arguments::{Attributes, Commented, Moved, Setting};
+pub use arguments::{Attributes, Chosen, Commented, Setting};
 pub use bytes::{Bytes, value_of};
 pub use decode::read_value;
 pub use label::{same, same_label};

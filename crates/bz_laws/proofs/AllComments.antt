@@ -4,7 +4,7 @@ use Rattle.std.specs.List.{list_all}
 use Rattle.bz_attribute.proofs.RuleNodes.{rule_nodes}
 use Rattle.bz_attribute.specs.Effects.{argument, edit_first, list_item, string, with_args}
 use Rattle.bz_attribute.specs.private.RuleNodes.{nodes_after}
-use Rattle.bz_attribute.specs.Lists.{edit_parts, is_joint, is_plus, with_value}
+use Rattle.bz_attribute.specs.Lists.{edit_parts, may_be_in_sum, is_plus, with_value}
 use Rattle.bz_attribute.specs.ListWalk.{edit_first_part, edit_from, edit_list, edit_one_from, is_part}
 use Rattle.bz_attribute.proofs.ListPieces.{edit_first_part_is, edit_parts_are}
 use Rattle.bz_attribute.specs.Rules.{is_named, rule_of, value}
@@ -80,7 +80,7 @@ from_keeps f keep start (x ∷ xs) =
 
 pub parts_keep : (f : List Segment → List Segment) → ((ss : List Segment) → in_all (f ss) ≡ in_all ss) → (nodes : List Item) → in_nodes (edit_parts f nodes) ≡ in_nodes nodes
 parts_keep f keep nodes =
-    ap in_nodes (edit_parts_are f nodes) ∙ either_way (λ (zs : List Item). in_nodes zs ≡ in_nodes nodes) (list_all is_joint nodes) (from_keeps f keep true nodes) refl
+    ap in_nodes (edit_parts_are f nodes) ∙ either_way (λ (zs : List Item). in_nodes zs ≡ in_nodes nodes) (list_all may_be_in_sum nodes) (from_keeps f keep true nodes) refl
 
 one_keeps : (f : List Segment → List Segment) → ((ss : List Segment) → in_all (f ss) ≡ in_all ss) → (start : Bool) (xs : List Item) → in_nodes (edit_one_from f start xs) ≡ in_nodes xs
 one_keeps f keep start [] = refl
@@ -89,7 +89,7 @@ one_keeps f keep start (x ∷ xs) =
 
 pub first_part_keeps : (f : List Segment → List Segment) → ((ss : List Segment) → in_all (f ss) ≡ in_all ss) → (nodes : List Item) → in_nodes (edit_first_part f nodes) ≡ in_nodes nodes
 first_part_keeps f keep nodes =
-    ap in_nodes (edit_first_part_is f nodes) ∙ either_way (λ (zs : List Item). in_nodes zs ≡ in_nodes nodes) (list_all is_joint nodes) (one_keeps f keep true nodes) refl
+    ap in_nodes (edit_first_part_is f nodes) ∙ either_way (λ (zs : List Item). in_nodes zs ≡ in_nodes nodes) (list_all may_be_in_sum nodes) (one_keeps f keep true nodes) refl
 
 pub value_keeps : (nodes : List Item) (a : Segment) → in_nodes nodes ≡ in_nodes (value a) → in_one (with_value nodes a) ≡ in_one a
 value_keeps nodes a h =

@@ -28,7 +28,7 @@ use Rattle.bz_laws.proofs.Commands.Remove.{remove_keeping}
 use Rattle.bz_laws.proofs.Commands.Rename.{rename_keeping}
 use Rattle.bz_laws.proofs.Commands.Replace.{replace_keeping}
 use Rattle.bz_laws.proofs.Commands.Set.{set_if_absent_keeping, set_keeping}
-use Rattle.bz_tree.specs.Grammar.{Argument, Is}
+use Rattle.bz_tree.specs.Grammar.{Argument, AreOf}
 use Rattle.bz_tree.proofs.Recognizer.InTable.{arg_form}
 use Rattle.bz_tree.proofs.Recognizer.FromTable.{argument_produced}
 use Rattle.bz_tree.specs.private.Productions.{IsArg}
@@ -79,9 +79,9 @@ unmentioned_stay c home s t h =
     by (Some args) = (keeping c home).left args
 
 -- what is well formed stays so, and texts pass a test that those before it and the words of the command pass
-pub arguments_formed : (depth : ℕ) (c : Command) (home : Package) (args : List Segment) → is_command c ≡ true → AreFormed (Is Argument) (suc depth) args → AreFormed (Is Argument) (suc depth) (args_after c home args)
+pub arguments_formed : (depth : ℕ) (c : Command) (home : Package) (args : List Segment) → is_command c ≡ true → AreFormed (AreOf Argument) (suc depth) args → AreFormed (AreOf Argument) (suc depth) (args_after c home args)
 arguments_formed depth c home args h good =
-    formed_so IsArg (Is Argument) (λ xs a. arg_form a) (suc depth) (args_after c home args) ((keeping c home).arguments depth args h (formed_so (Is Argument) IsArg argument_produced (suc depth) args good))
+    formed_so IsArg (AreOf Argument) (λ xs a. arg_form a) (suc depth) (args_after c home args) ((keeping c home).arguments depth args h (formed_so (AreOf Argument) IsArg argument_produced (suc depth) args good))
 
 pub formed_after : (depth : ℕ) (c : Command) (home : Package) (s t : Statement) → is_command c ≡ true → 2 ≤ depth → IsWellFormed depth s → after c home (Some s) ≡ Some t → IsWellFormed depth t
 formed_after zero c home s t h k w e = absurd (omega arith)

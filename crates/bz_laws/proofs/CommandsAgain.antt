@@ -92,15 +92,15 @@ pub record Leaves (ps cs : List Command) (home : Package) (s : Statement) : Type
 
 all_done : FindsNothing → (ps cs : List Command) (home : Package) (s : Statement) → list_all is_steady ps ≡ true → list_all is_command cs ≡ true → list_all is_steady cs ≡ true → are_all_apart cs ≡ true → AreBefore ps cs
     → AreOnce cs s → AreCalm cs home (Some s) → AreSettled ps home s → Leaves ps cs home s
-all_done law ps [] home s past read steady apart before once calm settled = record { left = s; is = refl; done = settled; settled = tt }
-all_done law ps (c ∷ cs) home s past read steady apart before once calm settled =
+all_done law ps [] home s past read steady apart before once none_fails settled = record { left = s; is = refl; done = settled; settled = tt }
+all_done law ps (c ∷ cs) home s past read steady apart before once none_fails settled =
     let r = and_parts (is_command c) (list_all is_command cs) read in
     let k = and_parts (is_steady c) (list_all is_steady cs) steady in
     let a = and_parts (list_all (are_apart c) cs) (are_all_apart cs) apart in
     let next = steady_leaves c home s k.0 in
-    let here = law c home s next.0 r.0 k.0 once.0 calm.0 next.1 in
+    let here = law c home s next.0 r.0 k.0 once.0 none_fails.0 next.1 in
     let rest = all_done law (c ∷ ps) cs home next.0 (and_from (is_steady c) (list_all is_steady ps) k.0 past) r.1 k.1 a.1 (one_more ps c cs before.1 a.0)
-    (all_once cs c home s next.0 k.0 a.0 next.1 once.1) (subst (AreCalm cs home) next.1 calm.1)
+    (all_once cs c home s next.0 k.0 a.0 next.1 once.1) (subst (AreCalm cs home) next.1 none_fails.1)
     (here, all_settled ps c home s next.0 past k.0 before.0 next.1 settled) in
     record { left = rest.left; is = ap (after_all cs home) next.1 ∙ rest.is; done = rest.done.1; settled = (rest.done.0, rest.settled) }
 
@@ -110,8 +110,8 @@ none_before (c ∷ cs) = (refl, none_before cs)
 
 pub all_find_nothing : FindsNothing → (cs : List Command) (home : Package) (s : Statement) → list_all is_command cs ≡ true → list_all is_steady cs ≡ true → are_all_apart cs ≡ true → AreOnce cs s → AreCalm cs home (Some s)
     → (t : Statement) × (after_all cs home (Some s) ≡ Some t) × AreSettled cs home t
-all_find_nothing law cs home s read steady apart once calm =
-    let l = all_done law [] cs home s refl read steady apart (none_before cs) once calm tt in
+all_find_nothing law cs home s read steady apart once none_fails =
+    let l = all_done law [] cs home s refl read steady apart (none_before cs) once none_fails tt in
     (l.left, l.is, l.settled)
 
 -- where all are settled, nothing is changed

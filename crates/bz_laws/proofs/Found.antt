@@ -7,11 +7,11 @@ use Rattle.std.proofs.lemmas.List.Folds.{list_any-append}
 use Rattle.bz_tree.specs.Tree.{Segment}
 use Rattle.bz_label.specs.Labels.{Package}
 use Rattle.bz_label.specs.Same.{completed}
-use Rattle.bz_label.specs.declared.arguments.Moved.TheVariants.{Values}
+use Rattle.bz_label.specs.declared.arguments.Chosen.TheVariants.{Values}
 use Rattle.bz_attribute.specs.Rules.{is_named, is_text, first_named, value}
 use Rattle.bz_attribute.specs.Lists.{is_attribute, parts, same, with_value}
 use Rattle.bz_attribute.specs.ListWalk.{edit_first_part}
-use Rattle.bz_attribute.specs.Effects.{chooses, has, is_chosen, not_a_list, string}
+use Rattle.bz_attribute.specs.Effects.{chooses, has, is_chosen, no_list_note, string}
 use Rattle.bz_rule.specs.Add.{add, add_by_value, fresh, is_fresh, new_elements, with_added}
 use Rattle.bz_rule.proofs.Adds.{add_is}
 use Rattle.bz_attribute.specs.declared.done.Note.TheVariants.{NotAList}
@@ -144,11 +144,11 @@ first_after_add home attr values args =
     ] refl
 
 -- each value is found where it was to be added
-pub add_found : (home : Package) (attr : List ℕ) (values : List (List ℕ)) (args : List Segment) → not_a_list attr (first_named attr args) ≡ None
+pub add_found : (home : Package) (attr : List ℕ) (values : List (List ℕ)) (args : List Segment) → no_list_note attr (first_named attr args) ≡ None
     → list_all (λ v. map_or false (chooses home (Values (v ∷ []))) (first_named attr (add home attr values args))) values ≡ true
 add_found home attr values args h =
     let after : first_named attr (add home attr values args) ≡ Some (first_added home attr values (first_named attr args)) = first_after_add home attr values args in
-    rw after (elim (first_named attr args) as (λ o. first_named attr args ≡ o → not_a_list attr o ≡ None → list_all (λ v. chooses home (Values (v ∷ [])) (first_added home attr values o)) values ≡ true) [
+    rw after (elim (first_named attr args) as (λ o. first_named attr args ≡ o → no_list_note attr o ≡ None → list_all (λ v. chooses home (Values (v ∷ [])) (first_added home attr values o)) values ≡ true) [
       | None ↦ λ e k. found_in_new home attr values
       | Some a ↦ λ e k. found_in_added home values a (attribute_named attr a (is_first_named attr args a e)) (lists_there attr (is_empty (parts (value a))) k)
     ] refl h)

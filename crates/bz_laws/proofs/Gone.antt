@@ -5,8 +5,8 @@ use Rattle.std.proofs.lemmas.Bool.{and_right}
 use Rattle.bz_tree.specs.Tree.{Segment}
 use Rattle.bz_label.specs.Labels.{Package}
 use Rattle.bz_label.specs.declared.arguments.Attributes.TheVariants.{Every, Named}
-use Rattle.bz_label.specs.declared.arguments.Moved.{Moved}
-use Rattle.bz_label.specs.declared.arguments.Moved.TheVariants.{Values}
+use Rattle.bz_label.specs.declared.arguments.Chosen.{Chosen}
+use Rattle.bz_label.specs.declared.arguments.Chosen.TheVariants.{Values}
 use Rattle.bz_attribute.specs.Rules.{is_named, is_text, first_named, value}
 use Rattle.bz_attribute.specs.Lists.{edit_parts, is_attribute, parts, with_value}
 use Rattle.bz_attribute.specs.Effects.{edit_first, filtered, has, is_chosen, loses_all, unchosen, chooses}
@@ -39,7 +39,7 @@ no_more attr (a ∷ args) h =
     [ true ↦ λ k. absurd (omega arith) | false ↦ λ k. no_more attr args k ] h
 
 -- of the only argument of a name, no element is left that equals a value
-values_gone : (home : Package) (attr : List ℕ) (chosen : Moved) (args : List Segment) → length (filter (is_named attr) args) ≤ 1
+values_gone : (home : Package) (attr : List ℕ) (chosen : Chosen) (args : List Segment) → length (filter (is_named attr) args) ≤ 1
     → map_or false (chooses home chosen) (first_named attr (edit_first (is_named attr) (filtered (unchosen home chosen)) args)) ≡ false
 values_gone home attr chosen [] h = refl
 values_gone home attr chosen (a ∷ args) h =

@@ -3,7 +3,7 @@ use Rattle.std.proofs.Common.{List, [], arith, false, if◌then◌else◌, map, 
 use Rattle.bz_attribute.specs.Effects.{argument, edit_first, filtered, is_chosen, loses_all, string, string_item, unchosen}
 use Rattle.bz_attribute.specs.Lists.{edit_parts, is_attribute}
 use Rattle.bz_attribute.specs.Rules.{is_named, value}
-use Rattle.bz_label.specs.declared.arguments.Moved.{Moved}
+use Rattle.bz_label.specs.declared.arguments.Chosen.{Chosen}
 use Rattle.bz_label.specs.Labels.{Package}
 use Rattle.bz_rule.proofs.Arguments.{attribute_named}
 use Rattle.bz_laws.proofs.ArgumentValues.{IsValue, good_value, good_with, named_good}
@@ -24,10 +24,10 @@ first_good depth attr f keep (a ∷ args) h =
       | false ↦ λ e. (h.0, first_good depth attr f keep args h.1)
     ] refl
 
-unchosen_good : (depth : ℕ) (home : Package) (chosen : Moved) → KeepsGood depth (unchosen home chosen)
+unchosen_good : (depth : ℕ) (home : Package) (chosen : Chosen) → KeepsGood depth (unchosen home chosen)
 unchosen_good depth home chosen ss h = all_filtered (IsFormed IsTest depth) (λ s. not (is_chosen home chosen s)) ss h
 
-pub filtered_good : (depth : ℕ) (home : Package) (chosen : Moved) (a : Segment) → is_attribute a ≡ true → IsFormed IsArg (suc depth) a → AreFormed IsArg (suc depth) (filtered (unchosen home chosen) a)
+pub filtered_good : (depth : ℕ) (home : Package) (chosen : Chosen) (a : Segment) → is_attribute a ≡ true → IsFormed IsArg (suc depth) a → AreFormed IsArg (suc depth) (filtered (unchosen home chosen) a)
 filtered_good depth home chosen a h good =
     either_way (AreFormed IsArg (suc depth)) (loses_all (unchosen home chosen) (value a)) tt
     (good_with (suc depth) (edit_parts (unchosen home chosen) (value a)) a h good (edited_parts_good depth (unchosen home chosen) (unchosen_good depth home chosen) (value a) (good_value (suc depth) a h good)), tt)

@@ -10,8 +10,8 @@ use Rattle.bz_label.specs.Labels.{Package}
 use Rattle.bz_label.specs.declared.arguments.Attributes.{Attributes}
 use Rattle.bz_label.specs.declared.arguments.Attributes.TheVariants.{Every, Named}
 use Rattle.bz_label.specs.declared.arguments.Commented.TheVariants.{Rule as OfRule}
-use Rattle.bz_label.specs.declared.arguments.Moved.{Moved}
-use Rattle.bz_label.specs.declared.arguments.Moved.TheVariants.{Values}
+use Rattle.bz_label.specs.declared.arguments.Chosen.{Chosen}
+use Rattle.bz_label.specs.declared.arguments.Chosen.TheVariants.{Values}
 use Rattle.bz_label.specs.declared.arguments.Setting.TheVariants.{ToKind, ToValues}
 use Rattle.bz_attribute.specs.Rules.{is_named, is_text, name_of, value, first_named}
 use Rattle.bz_attribute.specs.Lists.{edit_parts, is_attribute, with_value, parts}
@@ -188,7 +188,7 @@ put_in_leaves c attr mentioned ss args =
     (one_edited c attr mentioned (λ a. with_value (edit_first_part (λ there. there ++ ss) (value a)) a) (λ a h. named_with attr (edit_first_part (λ there. there ++ ss) (value a)) a h) args)
     (one_added c attr mentioned _ args)
 
-pub move_leaves : (home : Package) (old new : List ℕ) (chosen : Moved) → Leaves (Move old new chosen) (move home old new chosen)
+pub move_leaves : (home : Package) (old new : List ℕ) (chosen : Chosen) → Leaves (Move old new chosen) (move home old new chosen)
 move_leaves home old new chosen args =
     let c = Move old new chosen in
     let first : bytes_eq old old || bytes_eq new old ≡ true = ap (λ (b : Bool). b || bytes_eq new old) (same_bytes old) in

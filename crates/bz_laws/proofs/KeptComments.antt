@@ -5,7 +5,7 @@ use Rattle.bz_tree.specs.Tree.{Item, Segment}
 use Rattle.bz_label.specs.Labels.{Package}
 use Rattle.bz_label.specs.declared.arguments.Attributes.{Attributes}
 use Rattle.bz_label.specs.declared.arguments.Attributes.TheVariants.{Every, Named}
-use Rattle.bz_label.specs.declared.arguments.Moved.{Moved}
+use Rattle.bz_label.specs.declared.arguments.Chosen.{Chosen}
 use Rattle.bz_rule.specs.Add.{add, new_elements, with_added}
 use Rattle.bz_rule.proofs.Adds.{add_is}
 use Rattle.bz_attribute.specs.Effects.{argument, edit_first, filtered, has, list_item, loses_all, unchosen}
@@ -67,7 +67,7 @@ replace_keeps home Every old new (a ∷ args) =
     ]
 
 -- an argument that `remove` leaves has its comments
-pub left_keeps : (home : Package) (chosen : Moved) (a : Segment) → map own_comments (filtered (unchosen home chosen) a) ≡ (if loses_all (unchosen home chosen) (value a) then [] else own_comments a ∷ [])
+pub left_keeps : (home : Package) (chosen : Chosen) (a : Segment) → map own_comments (filtered (unchosen home chosen) a) ≡ (if loses_all (unchosen home chosen) (value a) then [] else own_comments a ∷ [])
 left_keeps home chosen a =
     elim (loses_all (unchosen home chosen) (value a)) as (λ b. map own_comments (if b then [] else with_value (edit_parts (unchosen home chosen) (value a)) a ∷ []) ≡ (if b then [] else own_comments a ∷ []))
     [ true ↦ refl | false ↦ refl ]

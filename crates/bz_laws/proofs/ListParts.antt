@@ -5,7 +5,7 @@ use Rattle.std.specs.List.{AllByRecursion, list_all, list_any}
 use Rattle.bz_attribute.specs.Effects.{edit_first, list_item}
 use Rattle.bz_attribute.specs.ListWalk.{is_list, edit_element, edit_element_from, edit_first_part, edit_from, edit_list, edit_one_from, ends, is_part, parts_from}
 use Rattle.bz_attribute.proofs.ListPieces.{edit_element_is, edit_first_part_is, edit_parts_are, parts_are}
-use Rattle.bz_attribute.specs.Lists.{edit_parts, is_joint, is_plus, parts}
+use Rattle.bz_attribute.specs.Lists.{edit_parts, may_be_in_sum, is_plus, parts}
 use Rattle.bz_attribute.specs.Rules.{elements}
 use Rattle.bz_layout_laws.specs.Inside.{HasShape}
 use Rattle.bz_layout_laws.specs.Legible.{item_depth, items_depth, segs_depth}
@@ -177,15 +177,15 @@ element_edits depth p g keep start (x ∷ xs) =
 
 pub edited_parts_good : (depth : ℕ) (f : List Segment → List Segment) → KeepsGood depth f → (nodes : List Item) → IsValue (suc depth) nodes → IsValue (suc depth) (edit_parts f nodes)
 edited_parts_good depth f keep nodes v =
-    subst (IsValue (suc depth)) (sym (edit_parts_are f nodes)) (either_way (IsValue (suc depth)) (list_all is_joint nodes) (edited_value depth nodes (edit_from f true nodes) (from_edits depth f keep true nodes) v) v)
+    subst (IsValue (suc depth)) (sym (edit_parts_are f nodes)) (either_way (IsValue (suc depth)) (list_all may_be_in_sum nodes) (edited_value depth nodes (edit_from f true nodes) (from_edits depth f keep true nodes) v) v)
 
 pub edited_first_part_good : (depth : ℕ) (f : List Segment → List Segment) → KeepsGood depth f → (nodes : List Item) → IsValue (suc depth) nodes → IsValue (suc depth) (edit_first_part f nodes)
 edited_first_part_good depth f keep nodes v =
-    subst (IsValue (suc depth)) (sym (edit_first_part_is f nodes)) (either_way (IsValue (suc depth)) (list_all is_joint nodes) (edited_value depth nodes (edit_one_from f true nodes) (one_edits depth f keep true nodes) v) v)
+    subst (IsValue (suc depth)) (sym (edit_first_part_is f nodes)) (either_way (IsValue (suc depth)) (list_all may_be_in_sum nodes) (edited_value depth nodes (edit_one_from f true nodes) (one_edits depth f keep true nodes) v) v)
 
 pub edited_element_good : (depth : ℕ) (p : Segment → Bool) (g : Segment → Segment) → KeepsGood depth (edit_first p (λ s. g s ∷ [])) → (nodes : List Item) → IsValue (suc depth) nodes → IsValue (suc depth) (edit_element p g nodes)
 edited_element_good depth p g keep nodes v =
-    subst (IsValue (suc depth)) (sym (edit_element_is p g nodes)) (either_way (IsValue (suc depth)) (list_all is_joint nodes) (edited_value depth nodes (edit_element_from p g true nodes) (element_edits depth p g keep true nodes) v) v)
+    subst (IsValue (suc depth)) (sym (edit_element_is p g nodes)) (either_way (IsValue (suc depth)) (list_all may_be_in_sum nodes) (edited_value depth nodes (edit_element_from p g true nodes) (element_edits depth p g keep true nodes) v) v)
 
 -- the elements of list parts
 part_elements : (depth : ℕ) (b : Preceding) (x : Item) → is_list x ≡ true → IsNode (suc depth) b x → AreFormed IsTest depth (elements x)
@@ -204,7 +204,7 @@ from_good depth b start (x ∷ xs) h =
 
 pub parts_good : (depth : ℕ) (nodes : List Item) → IsValue (suc depth) nodes → AllByRecursion (AreFormed IsTest depth) (parts nodes)
 parts_good depth nodes v =
-    subst (AllByRecursion (AreFormed IsTest depth)) (sym (parts_are nodes)) (either_way (AllByRecursion (AreFormed IsTest depth)) (list_all is_joint nodes) (from_good depth Other true nodes (value_nodes (suc depth) nodes v)) tt)
+    subst (AllByRecursion (AreFormed IsTest depth)) (sym (parts_are nodes)) (either_way (AllByRecursion (AreFormed IsTest depth)) (list_all may_be_in_sum nodes) (from_good depth Other true nodes (value_nodes (suc depth) nodes v)) tt)
 
 -- a value that is one list
 pub list_value : (depth : ℕ) (ss : List Segment) → AreFormed IsTest depth ss → IsValue (suc depth) (list_item ss ∷ [])

@@ -7,7 +7,7 @@ use Rattle.std.proofs.lemmas.List.Folds.{list_any-append}
 use Rattle.bz_token.specs.Common.{is_empty, map_or}
 use Rattle.bz_tree.specs.Tree.{Segment}
 use Rattle.bz_label.specs.Labels.{Package}
-use Rattle.bz_label.specs.declared.arguments.Moved.TheVariants.{Values}
+use Rattle.bz_label.specs.declared.arguments.Chosen.TheVariants.{Values}
 use Rattle.bz_attribute.specs.Effects.{is_chosen, string}
 use Rattle.bz_attribute.specs.Lists.{equals, is_attribute, parts, same}
 use Rattle.bz_attribute.specs.Rules.{first_named, string_value, value}

@@ -7,10 +7,10 @@ use Rattle.bz_tree.specs.Tree.{Segment, Statement}
 use Rattle.bz_label.specs.Labels.{Package}
 use Rattle.bz_label.specs.declared.arguments.Attributes.{Attributes}
 use Rattle.bz_label.specs.declared.arguments.Attributes.TheVariants.{Every, Named}
-use Rattle.bz_label.specs.declared.arguments.Moved.TheVariants.{Values}
+use Rattle.bz_label.specs.declared.arguments.Chosen.TheVariants.{Values}
 use Rattle.bz_label.specs.declared.arguments.Setting.TheVariants.{ToKind, ToValues}
 use Rattle.bz_attribute.specs.Rules.{Rule, first_named, is_named, is_text, kind_text, name_of, rule_of}
-use Rattle.bz_attribute.specs.Effects.{done, has, not_a_list, slot_done, chooses}
+use Rattle.bz_attribute.specs.Effects.{done, has, no_list_note, slot_done, chooses}
 use Rattle.bz_rule.specs.Add.{adds}
 use Rattle.bz_rule.specs.Set.{sets, sets_kind_of}
 use Rattle.bz_attribute.specs.declared.done.Done.{Done}
@@ -90,7 +90,7 @@ same_has attr xs ys h = has_first attr xs ∙ ap is_some (same_first attr xs ys 
 
 -- what a steady command tells of arguments rests on those of its attribute
 looks : (c : Command) (home : Package) (xs ys : List Segment) → is_steady c ≡ true → Alike (subject c) xs ys → args_done c home xs ≡ args_done c home ys
-looks (Add attr values) home xs ys steady h = ap (λ o. done (not_a_list attr o) (adds home values o)) (same_first attr xs ys h)
+looks (Add attr values) home xs ys steady h = ap (λ o. done (no_list_note attr o) (adds home values o)) (same_first attr xs ys h)
 looks (Remove Every values) home xs ys steady h = ap (args_done (Remove Every values) home) h
 looks (Remove (Named attr) []) home xs ys steady h = ap (done None) (same_has attr xs ys h)
 looks (Remove (Named attr) (v ∷ values)) home xs ys steady h = ap (λ o. done None (map_or false (chooses home (Values (v ∷ values))) o)) (same_first attr xs ys h)

@@ -5,7 +5,7 @@ use Rattle.std.specs.List.{AllByRecursion, list_all, list_any}
 use Rattle.bz_attribute.specs.Effects.{edit_first}
 use Rattle.bz_attribute.specs.ListWalk.{edit_element, edit_element_from, edit_first_part, edit_from, edit_list, edit_one_from, is_part, parts_from}
 use Rattle.bz_attribute.proofs.ListPieces.{edit_element_is, edit_first_part_is, edit_parts_are, parts_are}
-use Rattle.bz_attribute.specs.Lists.{edit_parts, is_joint, is_plus, parts}
+use Rattle.bz_attribute.specs.Lists.{edit_parts, may_be_in_sum, is_plus, parts}
 use Rattle.bz_attribute.specs.Rules.{elements}
 use Rattle.bz_layout_laws.specs.EachText.{segs_pass}
 use Rattle.bz_laws.proofs.PassingTexts.{NodePasses, NodesPass, SegmentPasses, SegmentsPass, elements_pass, group_passes}
@@ -46,16 +46,16 @@ element_from_edited q p g keep start (x ∷ xs) h =
 -- each list part, the first one, or one element of these is edited
 pub edited_parts_pass : (q : List ℕ → Bool) (f : List Segment → List Segment) → KeepsPassing q f → (nodes : List Item) → NodesPass q nodes → NodesPass q (edit_parts f nodes)
 edited_parts_pass q f keep nodes h =
-    subst (NodesPass q) (sym (edit_parts_are f nodes)) (either_way (NodesPass q) (list_all is_joint nodes) (from_edited q f keep true nodes h) h)
+    subst (NodesPass q) (sym (edit_parts_are f nodes)) (either_way (NodesPass q) (list_all may_be_in_sum nodes) (from_edited q f keep true nodes h) h)
 
 pub edited_first_part_passes : (q : List ℕ → Bool) (f : List Segment → List Segment) → KeepsPassing q f → (nodes : List Item) → NodesPass q nodes → NodesPass q (edit_first_part f nodes)
 edited_first_part_passes q f keep nodes h =
-    subst (NodesPass q) (sym (edit_first_part_is f nodes)) (either_way (NodesPass q) (list_all is_joint nodes) (one_edited q f keep true nodes h) h)
+    subst (NodesPass q) (sym (edit_first_part_is f nodes)) (either_way (NodesPass q) (list_all may_be_in_sum nodes) (one_edited q f keep true nodes h) h)
 
 pub edited_element_passes : (q : List ℕ → Bool) (p : Segment → Bool) (g : Segment → Segment) → ((s : Segment) → SegmentPasses q s → SegmentPasses q (g s)) → (nodes : List Item) → NodesPass q nodes
     → NodesPass q (edit_element p g nodes)
 edited_element_passes q p g keep nodes h =
-    subst (NodesPass q) (sym (edit_element_is p g nodes)) (either_way (NodesPass q) (list_all is_joint nodes) (element_from_edited q p g (edited_first_passes q p (λ s. g s ∷ []) (λ s k. (keep s k, tt))) true nodes h) h)
+    subst (NodesPass q) (sym (edit_element_is p g nodes)) (either_way (NodesPass q) (list_all may_be_in_sum nodes) (element_from_edited q p g (edited_first_passes q p (λ s. g s ∷ []) (λ s k. (keep s k, tt))) true nodes h) h)
 
 -- the elements of list parts
 from_pass : (q : List ℕ → Bool) (start : Bool) (xs : List Item) → NodesPass q xs → AllByRecursion (SegmentsPass q) (parts_from start xs)
@@ -66,4 +66,4 @@ from_pass q start (x ∷ xs) h =
 
 pub parts_pass : (q : List ℕ → Bool) (nodes : List Item) → NodesPass q nodes → AllByRecursion (SegmentsPass q) (parts nodes)
 parts_pass q nodes h =
-    subst (AllByRecursion (SegmentsPass q)) (sym (parts_are nodes)) (either_way (AllByRecursion (SegmentsPass q)) (list_all is_joint nodes) (from_pass q true nodes h) tt)
+    subst (AllByRecursion (SegmentsPass q)) (sym (parts_are nodes)) (either_way (AllByRecursion (SegmentsPass q)) (list_all may_be_in_sum nodes) (from_pass q true nodes h) tt)

@@ -6,7 +6,7 @@ use Rattle.bz_attribute.specs.Effects.{argument, edit_first, filtered, is_chosen
 use Rattle.bz_attribute.specs.Lists.{edit_parts, with_value}
 use Rattle.bz_attribute.specs.ListWalk.{edit_first_part}
 use Rattle.bz_attribute.specs.Rules.{is_named, value}
-use Rattle.bz_label.specs.declared.arguments.Moved.{Moved}
+use Rattle.bz_label.specs.declared.arguments.Chosen.{Chosen}
 use Rattle.bz_label.specs.Labels.{Package}
 use Rattle.bz_label.specs.Values.{quoted}
 use Rattle.bz_laws.proofs.PassingParts.{KeepsPassing, edited_first_part_passes, edited_first_passes, edited_parts_pass}
@@ -48,10 +48,10 @@ elements_added q more a k h =
     with_value_passes q (edit_first_part (λ ss. ss ++ more) (value a)) a
     (edited_first_part_passes q (λ ss. ss ++ more) (λ ss p. all_appended (SegmentPasses q) ss more p k) (value a) (value_passes q a.nodes h.nodes)) h
 
-unchosen_passes : (q : List ℕ → Bool) (home : Package) (chosen : Moved) → KeepsPassing q (unchosen home chosen)
+unchosen_passes : (q : List ℕ → Bool) (home : Package) (chosen : Chosen) → KeepsPassing q (unchosen home chosen)
 unchosen_passes q home chosen ss h = all_filtered (SegmentPasses q) (λ s. not (is_chosen home chosen s)) ss h
 
-pub filtered_passes : (q : List ℕ → Bool) (home : Package) (chosen : Moved) (a : Segment) → SegmentPasses q a → SegmentsPass q (filtered (unchosen home chosen) a)
+pub filtered_passes : (q : List ℕ → Bool) (home : Package) (chosen : Chosen) (a : Segment) → SegmentPasses q a → SegmentsPass q (filtered (unchosen home chosen) a)
 filtered_passes q home chosen a h =
     either_way (SegmentsPass q) (loses_all (unchosen home chosen) (value a)) tt
     (with_value_passes q (edit_parts (unchosen home chosen) (value a)) a (edited_parts_pass q (unchosen home chosen) (unchosen_passes q home chosen) (value a) (value_passes q a.nodes h.nodes)) h, tt)

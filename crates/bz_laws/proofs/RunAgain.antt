@@ -94,7 +94,7 @@ abbrev status_from : Bool → Bool → ℕ
 status_from failed changed = if failed then 2 else (if changed then 0 else 3)
 
 three : (failed changed : Bool) → failed ≡ false → changed ≡ false → status_from failed changed ≡ 3
-three failed changed calm quiet = rw (calm, quiet) refl
+three failed changed none_fails quiet = rw (none_fails, quiet) refl
 
 pub twice : SecondTime → (run : Run) (going : Bool) (file text second : List ℕ) (report again : Report) → AreCommands run.passes → HaveUtf8Words run.passes → is_query run.passes ≡ false → 2 ≤ run.max_depth
     → is_repeatable run.passes ≡ true → (outcome : IsOutcome run file text (told_by report)) → status_of report ≢ 2 → AllByRecursion HasNamesOnce outcome.edited
@@ -107,9 +107,9 @@ twice law run going file text second report again commands words query two repea
     let whole = status_whole run file text report outcome good in
     let done = whole.2 in
     let same : outcome.edited ≡ whole.1 = edited_all run file text (told_by report) outcome whole.1 done.read (λ e. whole.0) in
-    let calm : some_failure home passes outcome.edited ≡ false = ap (some_failure home passes) same ∙ done.calm in
+    let none_fails : some_failure home passes outcome.edited ≡ false = ap (some_failure home passes) same ∙ done.none_fails in
     let present : some_missing (meaning home) passes (slots_of outcome.edited) ≡ false = ap (λ ss. some_missing (meaning home) passes (slots_of ss)) same ∙ done.found in
-    let left = left_at_rest law home passes outcome.edited commands repeatable names calm in
+    let left = left_at_rest law home passes outcome.edited commands repeatable names none_fails in
     let back = reads_back run file text (told_by report) commands words query two outcome in
     let rests = all_back home passes back.found (left_by home passes outcome.edited) outcome.edited a.0 (no_lines passes passes query b.0) back.same left.0 left.1 in
     let nothing = finds_nothing home passes back.found outcome.edited commands repeatable rests.at_rest rests.alike in
@@ -117,13 +117,13 @@ twice law run going file text second report again commands words query two repea
     record {
       edited = back.found;
       ends = at_the_end None back.file refl;
-      calm = λ h. nothing.calm;
+      none_fails = λ h. nothing.none_fails;
       text_is = refl;
       changed = (λ h. absurd (false≢true h), λ change. absurd (nothing.unchanged change));
     } in
     let one = (one_outcome (record run { keep_going = going }) text second (text_after home passes back.found) (told_by again) (told_of home passes back.found None false) run2 is).1 in
     let quiet : again.changed ≡ false = ap (λ (t : Told). t.changed) one in
-    let fine : again.failed ≡ false = ap (λ (t : Told). t.failed) one ∙ log_fails home passes back.found ∙ ap (λ c. c || some_missing (meaning home) passes (slots_of back.found)) nothing.calm ∙ nothing.found ∙ present in (
+    let fine : again.failed ≡ false = ap (λ (t : Told). t.failed) one ∙ log_fails home passes back.found ∙ ap (λ c. c || some_missing (meaning home) passes (slots_of back.found)) nothing.none_fails ∙ nothing.found ∙ present in (
       three again.failed again.changed fine quiet,
       writes_again run file text (told_by report) commands words query two outcome home passes going second (told_by again) query run2 (λ h. ap (λ (t : Told). t.end) one) quiet,
     )

@@ -285,13 +285,13 @@ some_same : {X : Type 0} {x y : X} → Some x ≡ Some y → x ≡ y
 some_same h = cc
 
 rests : SecondTime → (home : Package) (ps : Script) (s : Statement) → AreCommands ps → is_repeatable ps ≡ true → HasNamesOnce s → some_alone (meaning home) (fails_on home) ps (Some s) ≡ false → Rests home ps s
-rests law home ps s read repeatable names calm =
+rests law home ps s read repeatable names none_fails =
     let a = and_parts (list_all (λ p. list_all is_steady p.commands) ps) _ repeatable in
     let b = and_parts (list_all (λ p. is_looked_past ps p.target) ps) (are_passes_apart ps) a.1 in
     let is : IsSteadyScript ps = record { steady = a.0; past = b.0 } in
     let cs = commands_for s ps in
     let l = marks_for home ps ps s is b.0 in
-    let done = all_find_nothing law cs home s (all_for is_command s ps read) (all_for is_steady s ps a.0) (apart_for s ps b.1) (once_for s names cs) (calm_for home ps s is calm) in
+    let done = all_find_nothing law cs home s (all_for is_command s ps read) (all_for is_steady s ps a.0) (apart_for s ps b.1) (once_for s names cs) (calm_for home ps s is none_fails) in
     let same : done.0 ≡ l.left = some_same (sym done.1 ∙ l.is) in
     record {
       left = l.left;
@@ -433,9 +433,9 @@ pub record AllRest (home : Package) (ps : Script) (ss : List Statement) : Type 0
   pub alike : AreAlike ps left ss
 
 all_rest : SecondTime → (home : Package) (ps : Script) → AreCommands ps → is_repeatable ps ≡ true → (ss : List Statement) → AllByRecursion HasNamesOnce ss → list_any (some_alone (meaning home) (fails_on home) ps) (slots_of ss) ≡ false → AllRest home ps ss
-all_rest law home ps read repeatable [] names calm = record { left = []; is = refl; at_rest = tt; alike = tt }
-all_rest law home ps read repeatable (s ∷ ss) names calm =
-    let a = or_parts (some_alone (meaning home) (fails_on home) ps (Some s)) (list_any (some_alone (meaning home) (fails_on home) ps) (slots_of ss)) calm in
+all_rest law home ps read repeatable [] names none_fails = record { left = []; is = refl; at_rest = tt; alike = tt }
+all_rest law home ps read repeatable (s ∷ ss) names none_fails =
+    let a = or_parts (some_alone (meaning home) (fails_on home) ps (Some s)) (list_any (some_alone (meaning home) (fails_on home) ps) (slots_of ss)) none_fails in
     let r = rests law home ps s read repeatable names.0 a.0 in
     let rest = all_rest law home ps read repeatable ss names.1 a.1 in
     record {
@@ -456,18 +456,18 @@ finds_nothing home ps ts ss commands repeatable rest alike = record {
   unchanged = λ change.
       false≢true (sym (some_alone_lem (meaning home) (changes home) ps (slots_of ts) ∙ none_of_all home (changes home) (λ c s h. h.unchanged) ps ts rest)
       ∙ (changes_tell home ps (slots_of ts) commands).1 change);
-  calm = failure_each home ps ts ∙ none_of_all home (fails_on home) (λ c s h. h.calm) ps ts rest;
+  none_fails = failure_each home ps ts ∙ none_of_all home (fails_on home) (λ c s h. h.none_fails) ps ts rest;
   found = missing_at_rest home ps ts rest ∙ still_alike home ps ts ss alike ∙ sym (missing_first home ps ss (steady_script ps repeatable));
 }
 
 pub left_at_rest : SecondTime → (home : Package) (ps : Script) (ss : List Statement) → AreCommands ps → is_repeatable ps ≡ true → AllByRecursion HasNamesOnce ss → some_failure home ps ss ≡ false
     → AllByRecursion (IsAtRest home ps) (left_by home ps ss) × AreAlike ps (left_by home ps ss) ss
-left_at_rest law home ps ss read repeatable names calm =
-    let r = all_rest law home ps read repeatable ss names (sym (failure_each home ps ss) ∙ calm) in
+left_at_rest law home ps ss read repeatable names none_fails =
+    let r = all_rest law home ps read repeatable ss names (sym (failure_each home ps ss) ∙ none_fails) in
     let is : r.left ≡ left_by home ps ss = sym r.is ∙ sym (left_alone home ps ss) in
     subst (λ ts. AllByRecursion (IsAtRest home ps) ts × AreAlike ps ts ss) is (r.at_rest, r.alike)
 
 pub script_finds_nothing : SecondTime → (home : Package) (ps : Script) (ss : List Statement) → AreCommands ps → is_repeatable ps ≡ true → AllByRecursion HasNamesOnce ss → some_failure home ps ss ≡ false → FindsNothing home ps (left_by home ps ss) ss
-script_finds_nothing law home ps ss read repeatable names calm =
-    let r = left_at_rest law home ps ss read repeatable names calm in
+script_finds_nothing law home ps ss read repeatable names none_fails =
+    let r = left_at_rest law home ps ss read repeatable names none_fails in
     finds_nothing home ps (left_by home ps ss) ss read repeatable r.0 r.1

@@ -8,11 +8,11 @@ use Rattle.bz_label.specs.Labels.{Package}
 use Rattle.bz_label.specs.declared.arguments.Attributes.{Attributes}
 use Rattle.bz_label.specs.declared.arguments.Attributes.TheVariants.{Every, Named}
 use Rattle.bz_rule.specs.declared.commands.field.Field.{Field}
-use Rattle.bz_label.specs.declared.arguments.Moved.TheVariants.{Values}
+use Rattle.bz_label.specs.declared.arguments.Chosen.TheVariants.{Values}
 use Rattle.bz_label.specs.declared.arguments.Setting.TheVariants.{ToKind, ToValues}
 use Rattle.bz_attribute.specs.Rules.{Rule, first_named, is_named, is_text, rule_of, value, kind_text}
 use Rattle.bz_attribute.specs.Lists.{is_attribute, parts}
-use Rattle.bz_attribute.specs.Effects.{argument, chooses, done, has, is_chosen, not_a_list, slot_done, string}
+use Rattle.bz_attribute.specs.Effects.{argument, chooses, done, has, is_chosen, no_list_note, slot_done, string}
 use Rattle.bz_rule.specs.Add.{add, adds, fresh, new_elements}
 use Rattle.bz_engine.specs.Language.{fails}
 use Rattle.bz_rule.specs.Remove.{goes_with_all, remove, removes}
@@ -36,7 +36,7 @@ use Rattle.bz_rule.proofs.Lawfulness.Replace.{lists_settled}
 
 -- what the laws of bz_rule say of the effects of commands
 pub record Known : Type 0 where
-  pub added : (home : Package) (attr : List ℕ) (values : List (List ℕ)) (args : List Segment) → not_a_list attr (first_named attr args) ≡ None
+  pub added : (home : Package) (attr : List ℕ) (values : List (List ℕ)) (args : List Segment) → no_list_note attr (first_named attr args) ≡ None
       → list_all (λ v. map_or false (chooses home (Values (v ∷ []))) (first_named attr (add home attr values args))) values ≡ true
   pub set : (home : Package) (attr : List ℕ) (values : List (List ℕ)) (slot : Option Statement) → (done_of (Set (ToValues attr values)) home (after (Set (ToValues attr values)) home slot)).changed ≡ false
   pub kind : (home : Package) (kind : List ℕ) (slot : Option Statement) → (done_of (Set (ToKind kind)) home (after (Set (ToKind kind)) home slot)).changed ≡ false
@@ -48,7 +48,7 @@ pub record Known : Type 0 where
   pub replaced : (home : Package) (old new : List ℕ) (a : Segment) → is_attribute a ≡ true → parts (value (replaced_in home old new a)) ≡ map (map (replaced home old new)) (parts (value a))
 
 quiet : (b : Bool) → b ≡ false → IsQuiet (done None b)
-quiet b h = record { unchanged = h; calm = refl }
+quiet b h = record { unchanged = h; none_fails = refl }
 
 -- `add`
 
@@ -62,20 +62,20 @@ some_parts : (p : Segment → Bool) (lists : List (List Segment)) → list_any (
 some_parts p [] h = absurd (false≢true h)
 some_parts p (ss ∷ lists) h = refl
 
-added_quiet : (home : Package) (attr v : List ℕ) (values : List (List ℕ)) (o : Option Segment) → list_all (λ w. map_or false (chooses home (Values (w ∷ []))) o) (v ∷ values) ≡ true → IsQuiet (done (not_a_list attr o) (adds home (v ∷ values) o))
+added_quiet : (home : Package) (attr v : List ℕ) (values : List (List ℕ)) (o : Option Segment) → list_all (λ w. map_or false (chooses home (Values (w ∷ []))) o) (v ∷ values) ≡ true → IsQuiet (done (no_list_note attr o) (adds home (v ∷ values) o))
 added_quiet home attr v values None h = absurd (false≢true h)
 added_quiet home attr v values (Some a) h =
     let lists = parts (value a) in
     let both = and_parts (chooses home (Values (v ∷ [])) a) (list_all (λ w. chooses home (Values (w ∷ [])) a) values) h in
     let nothing : new_elements home lists (v ∷ values) ≡ [] = ap (map string) (none_fresh home lists [] (v ∷ values) h) in
-    rw (some_parts (is_chosen home (Values (v ∷ []))) lists both.0, nothing) (record { unchanged = refl; calm = refl })
+    rw (some_parts (is_chosen home (Values (v ∷ []))) lists both.0, nothing) (record { unchanged = refl; none_fails = refl })
 
 add_again : Known → (home : Package) (attr : List ℕ) (values : List (List ℕ)) (args : List Segment) → not (length values == 0) ≡ true → fails (args_done (Add attr values) home args).note ≡ false
     → IsQuiet (args_done (Add attr values) home (args_after (Add attr values) home args))
-add_again known home attr [] args some calm = absurd (false≢true some)
-add_again known home attr (v ∷ values) args some calm = added_quiet home attr v values (first_named attr (add home attr (v ∷ values) args)) (known.added home attr (v ∷ values) args (no_note (first_named attr args) calm))
+add_again known home attr [] args some none_fails = absurd (false≢true some)
+add_again known home attr (v ∷ values) args some none_fails = added_quiet home attr v values (first_named attr (add home attr (v ∷ values) args)) (known.added home attr (v ∷ values) args (no_note (first_named attr args) none_fails))
   where
-    no_note : (o : Option Segment) → fails (done (not_a_list attr o) (adds home (v ∷ values) o)).note ≡ false → not_a_list attr o ≡ None
+    no_note : (o : Option Segment) → fails (done (no_list_note attr o) (adds home (v ∷ values) o)).note ≡ false → no_list_note attr o ≡ None
     no_note None h = refl
     no_note (Some a) h = elim (is_empty (parts (value a))) as (λ b. fails (done (if b then Some (NotAList attr) else None) (adds home (v ∷ values) (Some a))).note ≡ false → (if b then Some (NotAList attr) else None) ≡ None) [ true ↦ λ k. absurd (false≢true (sym k)) | false ↦ λ k. refl ] h
 
@@ -121,7 +121,7 @@ missing_calm home s r (field ∷ fields) = either_way (λ n. fails n ≡ false) 
 
 pub print_quiet : (home : Package) (fields : List Field) (s : Statement) → IsQuiet (prints home fields (Some s))
 print_quiet home fields s =
-    elim (rule_of s.nodes) as (λ o. IsQuiet (map_or (done None false) (λ r. printed home s r (fields_of fields)) o)) [ None ↦ quiet false refl | Some r ↦ record { unchanged = refl; calm = missing_calm home s r (fields_of fields) } ]
+    elim (rule_of s.nodes) as (λ o. IsQuiet (map_or (done None false) (λ r. printed home s r (fields_of fields)) o)) [ None ↦ quiet false refl | Some r ↦ record { unchanged = refl; none_fails = missing_calm home s r (fields_of fields) } ]
 
 -- on a statement
 
@@ -146,15 +146,15 @@ once_there x (Some r) h = h
 on_args : (c : Command) (home : Package) (s t : Statement) → ((slot : Option Statement) → done_of c home slot ≡ slot_done (args_done c home) slot)
     → ((args : List Segment) → IsOnce (subject c) args → fails (args_done c home args).note ≡ false → IsQuiet (args_done c home (args_after c home args)))
     → IsOnce (subject c) (arguments_of s) → fails (done_of c home (Some s)).note ≡ false → after c home (Some s) ≡ Some t → IsSettled c home (Some t)
-on_args c home s t tells again once calm h =
+on_args c home s t tells again once none_fails h =
     let f = args_done c home in
     let told_of : (z : Statement) → done_of c home (Some z) ≡ told f (there (rule_of z.nodes)) = λ z. tells (Some z) ∙ told_there f (rule_of z.nodes) in
     let now : done_of c home (Some t) ≡ told f (option_map (args_after c home) (there (rule_of s.nodes))) = told_of t ∙ ap (told f) (there_after c home s t h) in
-    subst IsQuiet (sym now) (by (there (rule_of s.nodes)) (once_there (subject c) (rule_of s.nodes) once) (ap (λ (d : Done). fails d.note) (sym (told_of s)) ∙ calm))
+    subst IsQuiet (sym now) (by (there (rule_of s.nodes)) (once_there (subject c) (rule_of s.nodes) once) (ap (λ (d : Done). fails d.note) (sym (told_of s)) ∙ none_fails))
   where
     by : (o : Option (List Segment)) → OnceThere (subject c) o → fails (told (args_done c home) o).note ≡ false → IsQuiet (told (args_done c home) (option_map (args_after c home) o))
-    by None once calm = quiet false refl
-    by (Some args) once calm = again args once calm
+    by None once none_fails = quiet false refl
+    by (Some args) once none_fails = again args once none_fails
 
 -- no note at all
 no_note : (p : List Segment → Bool) (slot : Option Statement) → fails (slot_done (λ args. done None (p args)) slot).note ≡ false
@@ -167,18 +167,18 @@ kind_calm kind (Some s) = elim (rule_of s.nodes) as (λ o. fails (map_or (done N
 
 pub second_time : Known → (c : Command) (home : Package) (s t : Statement) → is_command c ≡ true → is_steady c ≡ true → IsOnce (subject c) (arguments_of s) → fails (done_of c home (Some s)).note ≡ false
     → after c home (Some s) ≡ Some t → IsSettled c home (Some t)
-second_time known (Add attr values) home s t read steady once calm h =
-    on_args (Add attr values) home s t (λ slot. refl) (λ args o k. add_again known home attr values args (and_parts (is_identifier attr) (not (length values == 0)) read).1 k) once calm h
-second_time known (Remove attrs values) home s t read steady once calm h =
-    on_args (Remove attrs values) home s t (λ slot. refl) (λ args o k. quiet _ (remove_again known home attrs values args o)) once calm h
-second_time known (Set (ToKind kind)) home s t read steady once calm h =
-    record { unchanged = ap (λ slot. (sets_kind_of kind slot).changed) (sym h) ∙ known.kind home kind (Some s); calm = kind_calm kind (Some t) }
-second_time known (Set (ToValues attr values)) home s t read steady once calm h =
+second_time known (Add attr values) home s t read steady once none_fails h =
+    on_args (Add attr values) home s t (λ slot. refl) (λ args o k. add_again known home attr values args (and_parts (is_identifier attr) (not (length values == 0)) read).1 k) once none_fails h
+second_time known (Remove attrs values) home s t read steady once none_fails h =
+    on_args (Remove attrs values) home s t (λ slot. refl) (λ args o k. quiet _ (remove_again known home attrs values args o)) once none_fails h
+second_time known (Set (ToKind kind)) home s t read steady once none_fails h =
+    record { unchanged = ap (λ slot. (sets_kind_of kind slot).changed) (sym h) ∙ known.kind home kind (Some s); none_fails = kind_calm kind (Some t) }
+second_time known (Set (ToValues attr values)) home s t read steady once none_fails h =
     let c = Set (ToValues attr values) in
-    record { unchanged = ap (λ slot. (done_of c home slot).changed) (sym h) ∙ known.set home attr values (Some s); calm = no_note (λ args. sets attr values (first_named attr args)) (Some t) }
-second_time known (SetIfAbsent attr values) home s t read steady once calm h =
-    on_args (SetIfAbsent attr values) home s t (λ slot. refl) (λ args o k. quiet _ (ap not (set_if_absent_again attr values args))) once calm h
-second_time known (Replace attrs old new) home s t read steady once calm h =
-    on_args (Replace attrs old new) home s t (λ slot. refl) (λ args o k. quiet _ (replace_again known home attrs old new args)) once calm h
-second_time known (Print fields) home s t read steady once calm h = print_quiet home fields t
-second_time known _ home s t read steady once calm h = absurd (false≢true steady)
+    record { unchanged = ap (λ slot. (done_of c home slot).changed) (sym h) ∙ known.set home attr values (Some s); none_fails = no_note (λ args. sets attr values (first_named attr args)) (Some t) }
+second_time known (SetIfAbsent attr values) home s t read steady once none_fails h =
+    on_args (SetIfAbsent attr values) home s t (λ slot. refl) (λ args o k. quiet _ (ap not (set_if_absent_again attr values args))) once none_fails h
+second_time known (Replace attrs old new) home s t read steady once none_fails h =
+    on_args (Replace attrs old new) home s t (λ slot. refl) (λ args o k. quiet _ (replace_again known home attrs old new args)) once none_fails h
+second_time known (Print fields) home s t read steady once none_fails h = print_quiet home fields t
+second_time known _ home s t read steady once none_fails h = absurd (false≢true steady)

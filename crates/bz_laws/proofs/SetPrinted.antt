@@ -13,7 +13,7 @@ use Rattle.bz_rule.specs.declared.commands.field.Field.TheVariants.{ValueOf}
 use Rattle.bz_label.specs.declared.arguments.Setting.TheVariants.{ToValues}
 use Rattle.bz_attribute.specs.Effects.{argument, done}
 use Rattle.bz_attribute.specs.Rules.{Rule, first_named, is_text, rule_of, string_value, value}
-use Rattle.bz_rule.specs.Print.{list_text, printed, value_text, word_form}
+use Rattle.bz_rule.specs.Print.{other_text, printed, value_text, word_form}
 use Rattle.bz_rule.specs.Set.{New, NewConstant, NewNumber, NewString, NewStrings, is_value, new_of, new_value, set, set_in}
 use Rattle.bz_rule.specs.private.Steps.{are_strings}
 use Rattle.bz_rule.specs.declared.command.Action.TheVariants.{Set}
@@ -52,7 +52,7 @@ word_forms (word ∷ words) (s ∷ ss) h =
     λ i. ap (map_or [] word_form) (text_of word (string_value s.nodes) both.0) i ∷ word_forms words ss both.1 i
 
 pub value_printed : (new : New) (nodes : List Item) → is_value new nodes ≡ true → value_text nodes ≡ words_printed new
-value_printed (NewString word) nodes h = ap (map_or (list_text nodes) word_form) (text_of word (string_value nodes) h)
+value_printed (NewString word) nodes h = ap (map_or (other_text nodes) word_form) (text_of word (string_value nodes) h)
 value_printed (NewNumber digits) (leaf Integer text ∷ []) h = append-nil text ∙ (bytes_eq-Decides text digits).0 h
 value_printed (NewNumber digits) _ h = absurd (false≢true h)
 value_printed (NewConstant name) (leaf Identifier text ∷ []) h = append-nil text ∙ (bytes_eq-Decides text name).0 h

@@ -9,12 +9,12 @@ use Rattle.bz_tree.specs.declared.tree.GroupKind.TheVariants.{List as ListKind}
 use Rattle.bz_layout_laws.specs.Spelled.{spelled}
 use Rattle.bz_label.specs.Labels.{Package, Target, Name, Pkg, All as EachRule, Kind as OfKind, Line}
 use Rattle.bz_label.specs.declared.arguments.Attributes.TheVariants.{Every, Named}
-use Rattle.bz_label.specs.declared.arguments.Moved.{Moved}
-use Rattle.bz_label.specs.declared.arguments.Moved.TheVariants.{All, Values}
+use Rattle.bz_label.specs.declared.arguments.Chosen.{Chosen}
+use Rattle.bz_label.specs.declared.arguments.Chosen.TheVariants.{All, Values}
 use Rattle.bz_label.specs.declared.arguments.Setting.TheVariants.{ToKind, ToValues}
 use Rattle.bz_attribute.specs.Rules.{first_named, is_text, rule_of, string_value, value}
 use Rattle.bz_attribute.specs.Lists.{is_attribute, parts, same, only_list}
-use Rattle.bz_attribute.specs.Effects.{chooses, done, is_chosen, not_a_list, slot_done}
+use Rattle.bz_attribute.specs.Effects.{chooses, done, is_chosen, no_list_note, slot_done}
 use Rattle.bz_rule.specs.Add.{adds, fresh}
 use Rattle.bz_attribute.specs.Marks.{marks}
 use Rattle.bz_rule.specs.Remove.{goes_with_all}
@@ -42,11 +42,11 @@ any_in_lists : (p : Segment → Bool) → Blind p → (lists : List (List Segmen
 any_in_lists p blind [] = refl
 any_in_lists p blind (ss ∷ lists) = rw (any_spelled p blind ss, any_in_lists p blind lists) refl
 
-chosen_blind : (home : Package) (chosen : Moved) → Blind (is_chosen home chosen)
+chosen_blind : (home : Package) (chosen : Chosen) → Blind (is_chosen home chosen)
 chosen_blind home All s = refl
 chosen_blind home (Values values) s = ap (λ o. list_any (λ word. map_or false (λ value. same home value word) o) values) (string_spelled s.nodes)
 
-chooses_blind : (home : Package) (chosen : Moved) → Blind (chooses home chosen)
+chooses_blind : (home : Package) (chosen : Chosen) → Blind (chooses home chosen)
 chooses_blind home chosen a = ap (list_any (list_any (is_chosen home chosen))) (parts_spelled a) ∙ any_in_lists (is_chosen home chosen) (chosen_blind home chosen) (parts (value a))
 
 -- `add`
@@ -59,7 +59,7 @@ fresh_spelled : (home : Package) (lists : List (List Segment)) (earlier values :
 fresh_spelled home lists earlier [] = refl
 fresh_spelled home lists earlier (v ∷ values) = rw (any_in_lists (is_chosen home (Values (v ∷ []))) (chosen_blind home (Values (v ∷ []))) lists, fresh_spelled home lists (earlier ++ v ∷ []) values) refl
 
-add_spelled : (home : Package) (attr : List ℕ) (values : List (List ℕ)) (o : Option Segment) → done (not_a_list attr (option_map respelled o)) (adds home values (option_map respelled o)) ≡ done (not_a_list attr o) (adds home values o)
+add_spelled : (home : Package) (attr : List ℕ) (values : List (List ℕ)) (o : Option Segment) → done (no_list_note attr (option_map respelled o)) (adds home values (option_map respelled o)) ≡ done (no_list_note attr o) (adds home values o)
 add_spelled home attr values None = refl
 add_spelled home attr values (Some a) = rw (parts_spelled a, no_parts_spelled (parts (value a)), fresh_spelled home (parts (value a)) [] values) refl
 
@@ -120,14 +120,14 @@ set_spelled attr words (Some a) =
 
 -- `remove`
 
-chooses_in_spelled : (home : Package) (chosen : Moved) (o : Option Segment) → map_or false (chooses home chosen) (option_map respelled o) ≡ map_or false (chooses home chosen) o
+chooses_in_spelled : (home : Package) (chosen : Chosen) (o : Option Segment) → map_or false (chooses home chosen) (option_map respelled o) ≡ map_or false (chooses home chosen) o
 chooses_in_spelled home chosen None = refl
 chooses_in_spelled home chosen (Some a) = chooses_blind home chosen a
 
 goes_blind : Blind goes_with_all
 goes_blind a = rw (attribute_spelled a, named_spelled (codes "name") a) refl
 
-anywhere_blind : (home : Package) (chosen : Moved) → Blind (λ a. is_attribute a && chooses home chosen a)
+anywhere_blind : (home : Package) (chosen : Chosen) → Blind (λ a. is_attribute a && chooses home chosen a)
 anywhere_blind home chosen a = rw (attribute_spelled a, chooses_blind home chosen a) refl
 
 -- `replace`
@@ -148,7 +148,7 @@ each_blind home old new a = rw (attribute_spelled a, replaces_blind home old new
 -- all of them
 
 args_spelled : (c : Command) (home : Package) (args : List Segment) → is_steady c ≡ true → args_done c home (map respelled args) ≡ args_done c home args
-args_spelled (Add attr values) home args steady = ap (λ o. done (not_a_list attr o) (adds home values o)) (first_spelled attr args) ∙ add_spelled home attr values (first_named attr args)
+args_spelled (Add attr values) home args steady = ap (λ o. done (no_list_note attr o) (adds home values o)) (first_spelled attr args) ∙ add_spelled home attr values (first_named attr args)
 args_spelled (Remove Every []) home args steady = ap (done None) (any_spelled goes_with_all goes_blind args)
 args_spelled (Remove Every (v ∷ values)) home args steady = ap (done None) (any_spelled (λ a. is_attribute a && chooses home (Values (v ∷ values)) a) (anywhere_blind home (Values (v ∷ values))) args)
 args_spelled (Remove (Named attr) []) home args steady = ap (done None) (has_spelled attr args)

@@ -10,7 +10,7 @@ use Rattle.bz_layout_laws.specs.Spelled.{spelled, spelled_items, spelled_segs}
 use Rattle.bz_layout_laws.proofs.SpelledValues.{respelled_value}
 use Rattle.bz_attribute.specs.Rules.{elements, first_named, ident_of, is_named, is_text, kind_text, name_of, rule_of, string_value, value}
 use Rattle.bz_attribute.specs.private.RuleSteps.{call_at, dotted}
-use Rattle.bz_attribute.specs.Lists.{is_attribute, is_joint, is_plus, parts}
+use Rattle.bz_attribute.specs.Lists.{is_attribute, may_be_in_sum, is_plus, parts}
 use Rattle.bz_attribute.specs.ListWalk.{is_list, ends, is_part, parts_from}
 use Rattle.bz_attribute.proofs.ListPieces.{parts_are}
 use Rattle.bz_attribute.specs.Effects.{has}
@@ -151,13 +151,13 @@ string_spelled (leaf String text ∷ y ∷ xs) = refl
 string_spelled (leaf _ text ∷ y ∷ xs) = refl
 string_spelled (group kind segs one_comma end ∷ y ∷ xs) = refl
 
-joint_spelled : (x : Item) → is_joint (spelled x) ≡ is_joint x
+joint_spelled : (x : Item) → may_be_in_sum (spelled x) ≡ may_be_in_sum x
 joint_spelled (leaf Keyword text) = refl
 joint_spelled (leaf Operator text) = refl
 joint_spelled (leaf _ text) = refl
 joint_spelled (group kind segs one_comma end) = refl
 
-joints_spelled : (xs : List Item) → list_all is_joint (map spelled xs) ≡ list_all is_joint xs
+joints_spelled : (xs : List Item) → list_all may_be_in_sum (map spelled xs) ≡ list_all may_be_in_sum xs
 joints_spelled [] = refl
 joints_spelled (x ∷ xs) = rw (joint_spelled x, joints_spelled xs) refl
 
@@ -184,7 +184,7 @@ parts_nodes : (nodes : List Item) → parts (map spelled nodes) ≡ map (map res
 parts_nodes nodes =
     parts_are (map spelled nodes)
     ∙ rw (joints_spelled nodes)
-    (elim (list_all is_joint nodes) as (λ b. (if b then parts_from true (map spelled nodes) else []) ≡ map (map respelled) (if b then parts_from true nodes else [])) [ true ↦ from_spelled true nodes | false ↦ refl ])
+    (elim (list_all may_be_in_sum nodes) as (λ b. (if b then parts_from true (map spelled nodes) else []) ≡ map (map respelled) (if b then parts_from true nodes else [])) [ true ↦ from_spelled true nodes | false ↦ refl ])
     ∙ ap (map (map respelled)) (sym (parts_are nodes))
 
 pub parts_spelled : (a : Segment) → parts (value (respelled a)) ≡ map (map respelled) (parts (value a))

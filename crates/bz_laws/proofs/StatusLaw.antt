@@ -48,19 +48,19 @@ record IsGood (run : Run) (file text : List ℕ) (report : Report) : Type 0 wher
 
 good : (run : Run) (file text : List ℕ) (report : Report) → IsOutcome run file text (told_by report) → report.failed ≡ false
     → IsGood run file text report
-good run file text report outcome calm = by outcome.ends
+good run file text report outcome none_fails = by outcome.ends
   where
     by : RunEnds run file outcome.edited (told_by report) → IsGood run file text report
     by (at_the_end None read told_is) =
-        let none = or_none (some_failure run.home run.passes outcome.edited) (some_missing (meaning run.home) run.passes (slots_of outcome.edited)) (sym (log_fails run.home run.passes outcome.edited) ∙ sym (ap (λ (t : Told). t.failed) told_is) ∙ calm) in
+        let none = or_none (some_failure run.home run.passes outcome.edited) (some_missing (meaning run.home) run.passes (slots_of outcome.edited)) (sym (log_fails run.home run.passes outcome.edited) ∙ sym (ap (λ (t : Told). t.failed) told_is) ∙ none_fails) in
         record {
           end = ap (λ (t : Told). t.end) told_is;
           statements = outcome.edited;
-          done = record { read = read; calm = none.0; found = none.1; text_is = outcome.text_is };
+          done = record { read = read; none_fails = none.0; found = none.1; text_is = outcome.text_is };
           changed = outcome.changed;
         }
-    by (at_the_end (Some fault) read told_is) = absurd (false≢true (sym calm ∙ ap (λ (t : Told). t.failed) told_is))
-    by (at_a_failure s stops begins fails told_is) = absurd (false≢true (sym calm ∙ ap (λ (t : Told). t.failed) told_is))
+    by (at_the_end (Some fault) read told_is) = absurd (false≢true (sym none_fails ∙ ap (λ (t : Told). t.failed) told_is))
+    by (at_a_failure s stops begins fails told_is) = absurd (false≢true (sym none_fails ∙ ap (λ (t : Told). t.failed) told_is))
 
 pub status_whole : (run : Run) (file text : List ℕ) (report : Report) → IsOutcome run file text (told_by report) → status_of report ≢ 2
     → (report.end ≡ Whole) × (statements : List Statement) × IsDoneWhole run file text statements
@@ -88,15 +88,15 @@ status_unchanged run file text report outcome three =
 
 -- where all was done the status is not 2
 not_two : (failed changed : Bool) → failed ≡ false → status_from failed changed ≡ 2 → ⊥
-not_two true changed calm is = false≢true (sym calm)
-not_two false true calm is = cc
-not_two false false calm is = cc
+not_two true changed none_fails is = false≢true (sym none_fails)
+not_two false true none_fails is = cc
+not_two false false none_fails is = cc
 
 pub status_done : (run : Run) (file text : List ℕ) (report : Report) (statements : List Statement) → IsOutcome run file text (told_by report)
     → IsDoneWhole run file text statements → status_of report ≢ 2
 status_done run file text report statements outcome all =
     let change = change_told run.home run.passes statements in
     let is : IsOutcome run file text (told_of run.home run.passes statements None change.0) =
-    record { edited = statements; ends = at_the_end None all.read refl; calm = λ h. all.calm; text_is = all.text_is; changed = change.1 } in
+    record { edited = statements; ends = at_the_end None all.read refl; none_fails = λ h. all.none_fails; text_is = all.text_is; changed = change.1 } in
     let same = (one_outcome run file text text (told_by report) (told_of run.home run.passes statements None change.0) outcome is).1 in
-    not_two report.failed report.changed (ap (λ (t : Told). t.failed) same ∙ log_fails run.home run.passes statements ∙ ap (λ b. b || some_missing (meaning run.home) run.passes (slots_of statements)) all.calm ∙ all.found)
+    not_two report.failed report.changed (ap (λ (t : Told). t.failed) same ∙ log_fails run.home run.passes statements ∙ ap (λ b. b || some_missing (meaning run.home) run.passes (slots_of statements)) all.none_fails ∙ all.found)

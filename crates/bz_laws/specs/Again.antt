@@ -49,7 +49,7 @@ are_apart c d = are_others (subject c) (subject d) && not (sets_a_kind c && sets
 -- it changes nothing, and does not fail
 pub record IsQuiet (done : Done) : Type 0 where
   pub unchanged : done.changed ≡ false
-  pub calm : fails done.note ≡ false
+  pub none_fails : fails done.note ≡ false
 
 abbrev pub IsSettled : Command → Package → Option Statement → Type 0
 IsSettled c home slot = IsQuiet (done_of c home slot)

@@ -46,5 +46,5 @@ HasNamesOnce s = (attr : List ℕ) → HasOnce (arguments_of s) attr
 pub record FindsNothing (home : Package) (passes : Script) (statements before : List Statement) : Type 0 where
   pub stays : left_by home passes statements ≡ statements
   pub unchanged : SomeChange home passes statements → ⊥
-  pub calm : some_failure home passes statements ≡ false
+  pub none_fails : some_failure home passes statements ≡ false
   pub found : some_missing (meaning home) passes (slots_of statements) ≡ some_missing (meaning home) passes (slots_of before)

@@ -12,7 +12,7 @@ use Rattle.bz_engine.specs.Outcome.{Run, Script, slots_of, some_failure, text_af
 -- text is that of all statements as the script left them.
 pub record IsDoneWhole (run : Run) (file text : List ℕ) (statements : List Statement) : Type 0 where
   pub read : IsFile run.max_depth file statements None
-  pub calm : some_failure run.home run.passes statements ≡ false
+  pub none_fails : some_failure run.home run.passes statements ≡ false
   pub found : some_missing (meaning run.home) run.passes (slots_of statements) ≡ false
   pub text_is : text ≡ text_after run.home run.passes statements
 

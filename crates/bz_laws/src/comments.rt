@@ -19,7 +19,7 @@ ghost use Rattle.std.specs.Prelude.{
 ghost use Rattle.bz_tree.specs.Tree.{Segment, Statement};
 ghost use Rattle.bz_label.specs.Labels.{Package};
 ghost use Rattle.bz_label.specs.declared.arguments.Attributes.{Attributes};
-ghost use Rattle.bz_label.specs.declared.arguments.Moved.{Moved};
+ghost use Rattle.bz_label.specs.declared.arguments.Chosen.{Chosen};
 ghost use Rattle.bz_rule.specs.Add as add;
 ghost use Rattle.bz_attribute.specs.Effects as effects;
 ghost use Rattle.bz_rule.specs.Rename as rename;
@@ -48,7 +48,7 @@ pub fn comments_stay()
 /// own comments.
 #[tactic(auto, using(crate::proofs::Commands::Remove::left_elements, crate::proofs::Found::added_elements))]
 pub fn elements_keep_comments()
-    ensures remove { (home : Package) (chosen : Moved) (a b : Segment) → is_attribute a ≡ true
+    ensures remove { (home : Package) (chosen : Chosen) (a b : Segment) → is_attribute a ≡ true
         → effects.filtered (effects.unchosen home chosen) a ≡ b ∷ []
         → parts (value b) ≡ map (effects.unchosen home chosen) (parts (value a)) }
     ensures add { (home : Package) (values : List (List ℕ)) (a : Segment) (ss : List Segment)
@@ -78,7 +78,7 @@ pub fn arguments_keep_comments()
         → map own_comments (rename.rename old new args) ≡ map own_comments args }
     ensures replace { (home : Package) (attrs : Attributes) (old new : List ℕ) (args : List Segment)
         → map own_comments (replace.replace home attrs old new args) ≡ map own_comments args }
-    ensures remove { (home : Package) (chosen : Moved) (a : Segment)
+    ensures remove { (home : Package) (chosen : Chosen) (a : Segment)
         → map own_comments (effects.filtered (effects.unchosen home chosen) a)
         ≡ (if effects.loses_all (effects.unchosen home chosen) (value a) then [] else own_comments a ∷ []) }
 {}

@@ -6,7 +6,7 @@ ghost use Rattle.bz_tree.specs.Tree.{Segment, Statement};
 ghost use Rattle.bz_rule.specs.Commands.{after, done_of};
 ghost use Rattle.bz_label.specs.declared.arguments.Attributes.TheVariants.{Every, Named};
 ghost use Rattle.bz_label.specs.declared.arguments.Setting.TheVariants.{ToKind, ToValues};
-ghost use Rattle.bz_label.specs.declared.arguments.Moved.TheVariants.{Values};
+ghost use Rattle.bz_label.specs.declared.arguments.Chosen.TheVariants.{Values};
 ghost use Rattle.bz_rule.specs.declared.command.Action.TheVariants.{Add, Set};
 ghost use Rattle.bz_label.specs.Labels.{Package};
 ghost use Rattle.bz_attribute.specs.Lists.{is_attribute};
@@ -20,7 +20,7 @@ ghost use Rattle.bz_rule.specs.Remove as remove;
 #[tactic(auto, using(crate::proofs::Found::add_found))]
 pub fn added_values_are_found()
     ensures { (home : Package) (attr : List ℕ) (values : List (List ℕ)) (args : List Segment)
-        → effects.not_a_list attr (first_named attr args) ≡ None
+        → effects.no_list_note attr (first_named attr args) ≡ None
         → list_all
         (λ v. map_or false (effects.chooses home (Values (v ∷ [])))
         (first_named attr (add.add home attr values args))) values

@@ -1,7 +1,7 @@
 //! Laws on what commands leave: statements and their arguments are as parsing gives them.
 
 ghost use Rattle.std.specs.Prelude.{◌≡◌, ◌≤◌, ℕ, suc, List, Some, true};
-ghost use Rattle.bz_tree.specs.Grammar.{Argument, Is};
+ghost use Rattle.bz_tree.specs.Grammar.{Argument, AreOf};
 ghost use Rattle.bz_tree.specs.Tree.{Segment, Statement};
 ghost use Rattle.bz_rule.specs.Commands.{after, args_after, is_command, Command};
 ghost use Rattle.bz_label.specs.Labels.{Package};
@@ -14,8 +14,8 @@ ghost use Rattle.bz_laws.specs.WellFormedSegments.{AreFormed};
 #[tactic(auto, using(crate::proofs::Commands::arguments_formed))]
 pub fn arguments_stay_well_formed()
     ensures { (depth : ℕ) (c : Command) (home : Package) (args : List Segment) → is_command c ≡ true
-        → AreFormed (Is Argument) (suc depth) args
-        → AreFormed (Is Argument) (suc depth) (args_after c home args) }
+        → AreFormed (AreOf Argument) (suc depth) args
+        → AreFormed (AreOf Argument) (suc depth) (args_after c home args) }
 {}
 
 /// What a command as [`read_command`](bz_rule::read_command) makes it leaves of a well-formed statement is

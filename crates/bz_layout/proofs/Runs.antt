@@ -14,7 +14,7 @@ use Rattle.bz_layout.specs.declared.spacing.Gap.TheVariants.{Closed, Space, Line
 use Rattle.bz_layout.specs.declared.broken.Style.{Style}
 use Rattle.bz_layout.specs.declared.broken.Style.TheVariants.{Flat, Broken}
 use Rattle.bz_layout.specs.Walked.{count, is_broken, segs_hold, edge_after, operator_edge, is_prefix, begins_argument, is_index_colon, gap_before, gap_for, item_pieces, items_pieces, broken_segs, flat_segs, opening as opening_text, closing as closing_text}
-use Rattle.bz_layout.specs.Spacing.{hugs}
+use Rattle.bz_layout.specs.Spacing.{is_group_without_space}
 use Rattle.bz_layout.specs.Pieces.{Piece, piece, gap_bytes, bytes_of, comma_if, comments, suffix_piece}
 use Rattle.bz_layout.specs.Layout.{breaks, has_commas}
 use Rattle.bz_layout.specs.private.RowLayout.{Laid, run, top, comma_bytes, due, is_start, first_gap}
@@ -158,7 +158,7 @@ opening_bytes d gap kind = d ++ (gap_bytes gap ++ opening_text kind)
 -- a bracket opens, and its mark is taken
 opens : (style : Style) (m : BracketForm) (marks : List BracketForm) (kind : GroupKind) (ps : List RowPart) (t : List ℕ) (o : List OpenBracket) (h : OpenBracket) (l : Edge) (n : ℕ) →
     run (opening kind ∷ ps) (at t (supply style (m ∷ marks)) o h l n)
-    ≡ run ps (at (t ++ opening_bytes (due h l) (gap_for (first_gap h n) l (hugs kind)) kind) (supply style marks) (h ∷ o) (record { within = Some kind; mark = mark_in style m; later = false }) Start (level_in (mark_in style m) n))
+    ≡ run ps (at (t ++ opening_bytes (due h l) (gap_for (first_gap h n) l (is_group_without_space kind)) kind) (supply style marks) (h ∷ o) (record { within = Some kind; mark = mark_in style m; later = false }) Start (level_in (mark_in style m) n))
 opens Flat m marks kind ps t o h l n = refl
 opens Broken m marks kind ps t o h l n = refl
 
@@ -211,7 +211,7 @@ mutual
   run_item style (leaf kind text) rest t ms o h l n = rw append-nil refl
   run_item style (group kind segs one end) rest t ms o h l n =
       let b = is_broken kind segs end (segs_hold segs) in
-      let gap = gap_for (first_gap h n) l (hugs kind) in
+      let gap = gap_for (first_gap h n) l (is_group_without_space kind) in
       let d = due h l in
       let begun = opening_bytes d gap kind in
       let broken = run_broken style segs (map above end ++ closing one ∷ rest) (t ++ begun) ms (h ∷ o) kind (has_commas kind one (count segs)) (n + 1) in

@@ -15,7 +15,7 @@ use Rattle.bz_layout.specs.declared.spacing.Gap.TheVariants.{Closed, Space, Line
 use Rattle.bz_layout.specs.declared.broken.Style.{Style}
 use Rattle.bz_layout.specs.declared.broken.Style.TheVariants.{Flat, Broken}
 use Rattle.bz_layout.specs.Pieces.{Piece, piece, are_lined, begins_line, bytes_of, comma_if, comment_lines, comments, suffix_piece}
-use Rattle.bz_layout.specs.Spacing.{is_operator, begins_operand, is_index, holds_on}
+use Rattle.bz_layout.specs.Spacing.{is_operator, begins_operand, is_index, no_space_after}
 use Rattle.bz_layout.specs.Spacing as spacing
 use Rattle.bz_layout.specs.Broken.{breaks_by_count, has_comment}
 use Rattle.bz_layout.specs.Broken as broken
@@ -86,11 +86,11 @@ colon (Some Index) text = sym (and-true _ ∙ or-false _)
 colon (Some _) text = sym (and-false _)
 
 -- the tests of an operator
-joins : (dot p a i : Bool) → old.holds_on (if dot then Dotted else (if p || a || i then Joined else OperatorEdge)) ≡ ((dot || false) || p || a || i)
+joins : (dot p a i : Bool) → old.no_space_after (if dot then Dotted else (if p || a || i then Joined else OperatorEdge)) ≡ ((dot || false) || p || a || i)
 joins true p a i = refl
-joins false p a i = elim (p || a || i) as (λ b. old.holds_on (if b then Joined else OperatorEdge) ≡ b) [ true ↦ refl | false ↦ refl ]
+joins false p a i = elim (p || a || i) as (λ b. old.no_space_after (if b then Joined else OperatorEdge) ≡ b) [ true ↦ refl | false ↦ refl ]
 
-pub holds : (within : Option GroupKind) (before : List Item) (x : Item) → old.holds_on (edge_after within (edge within before) x) ≡ holds_on within before x
+pub holds : (within : Option GroupKind) (before : List Item) (x : Item) → old.no_space_after (edge_after within (edge within before) x) ≡ no_space_after within before x
 holds within before (leaf Operator text) =
     joins (bytes_eq text (codes ".")) (is_prefix (edge within before) text) (begins_argument within (edge within before) text) (is_index_colon within text)
     ∙ (λ j. (bytes_eq text (codes ".") || false) || prefix within before text j || begins within before text j || colon within text j)
@@ -99,18 +99,18 @@ holds within before (leaf _ text) = refl
 holds within before (group kind segs one_comma end) = refl
 
 -- the gap before a node
-gap_if : (first : Gap) (dot join closes : Bool) → gap_for first (if dot then Dotted else (if join then Joined else OperatorEdge)) closes ≡ (if old.holds_on (if dot then Dotted else (if join then Joined else OperatorEdge)) || closes then Closed else Space)
+gap_if : (first : Gap) (dot join closes : Bool) → gap_for first (if dot then Dotted else (if join then Joined else OperatorEdge)) closes ≡ (if old.no_space_after (if dot then Dotted else (if join then Joined else OperatorEdge)) || closes then Closed else Space)
 gap_if first true join closes = refl
 gap_if first false true closes = refl
 gap_if first false false closes = refl
 
-gap_after : (within : Option GroupKind) (first : Gap) (left : Edge) (y : Item) (closes : Bool) → gap_for first (edge_after within left y) closes ≡ (if old.holds_on (edge_after within left y) || closes then Closed else Space)
+gap_after : (within : Option GroupKind) (first : Gap) (left : Edge) (y : Item) (closes : Bool) → gap_for first (edge_after within left y) closes ≡ (if old.no_space_after (edge_after within left y) || closes then Closed else Space)
 gap_after within first left (leaf Operator text) closes = gap_if first _ _ closes
 gap_after within first left (leaf Keyword text) closes = refl
 gap_after within first left (leaf _ text) closes = refl
 gap_after within first left (group kind segs one_comma end) closes = refl
 
-closes : (x : Item) → old.closes_up x ≡ spacing.closes_up x
+closes : (x : Item) → old.no_space_before x ≡ spacing.no_space_before x
 closes (leaf Operator text) = or_three (bytes_eq text (codes ".")) (bytes_eq text (codes ",")) (bytes_eq text (codes ":"))
 closes (leaf _ text) = refl
 closes (group kind segs one_comma end) = refl
@@ -118,7 +118,7 @@ closes (group kind segs one_comma end) = refl
 pub gap_is : (within : Option GroupKind) (first : Gap) (before : List Item) (x : Item) → spacing.gap_before within first before x ≡ old.gap_before first (edge within before) x
 gap_is within first [] x = refl
 gap_is within first (y ∷ before) x =
-    sym (gap_after within first (edge within before) y (old.closes_up x) ∙ (λ i. if holds within before y i || closes x i then Closed else Space))
+    sym (gap_after within first (edge within before) y (old.no_space_before x) ∙ (λ i. if holds within before y i || closes x i then Closed else Space))
 
 -- a group is broken as it is where its parts are looked at
 comments_are : (ss : Segs) → list_any has_comment (segments ss) ≡ have_comments ss
@@ -133,8 +133,8 @@ gap_stays : (first : Gap) (left : Edge) (x : Item) → begins_line first ≡ fal
 gap_stays first Start x h = h
 gap_stays first Joined x h = refl
 gap_stays first Dotted x h = refl
-gap_stays first OperatorEdge x h = elim (old.closes_up x) as (λ b. begins_line (if b then Closed else Space) ≡ false) [ true ↦ refl | false ↦ refl ]
-gap_stays first Operand x h = elim (old.closes_up x) as (λ b. begins_line (if b then Closed else Space) ≡ false) [ true ↦ refl | false ↦ refl ]
+gap_stays first OperatorEdge x h = elim (old.no_space_before x) as (λ b. begins_line (if b then Closed else Space) ≡ false) [ true ↦ refl | false ↦ refl ]
+gap_stays first Operand x h = elim (old.no_space_before x) as (λ b. begins_line (if b then Closed else Space) ≡ false) [ true ↦ refl | false ↦ refl ]
 
 closed_lined : (one_comma : Bool) (kind : GroupKind) → are_lined (comma_if one_comma ++ piece Closed Operator (closing kind) ∷ []) ≡ false
 closed_lined true kind = refl

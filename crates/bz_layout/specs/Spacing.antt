@@ -18,15 +18,15 @@ is_operator texts (leaf Operator text) = list_any (bytes_eq text) texts
 is_operator texts _ = false
 
 -- a group that stands directly after what comes before it
-abbrev pub hugs : GroupKind → Bool
-hugs Load = true
-hugs Index = true
-hugs kind = is_call kind
+abbrev pub is_group_without_space : GroupKind → Bool
+is_group_without_space Load = true
+is_group_without_space Index = true
+is_group_without_space kind = is_call kind
 
--- no space stands before `.`, `,`, `:` and a group that hugs
-abbrev pub closes_up : Item → Bool
-closes_up (leaf kind text) = is_operator (codes "." ∷ codes "," ∷ codes ":" ∷ []) (leaf kind text)
-closes_up (group kind segs one_comma end) = hugs kind
+-- no space stands before `.`, `,`, `:` and such a group
+abbrev pub no_space_before : Item → Bool
+no_space_before (leaf kind text) = is_operator (codes "." ∷ codes "," ∷ codes ":" ∷ []) (leaf kind text)
+no_space_before (group kind segs one_comma end) = is_group_without_space kind
 
 -- where an operand begins: at the start, after a keyword and after an operator other than `.`
 abbrev pub begins_operand : List Item → Bool
@@ -41,8 +41,8 @@ is_index Index = true
 is_index _ = false
 
 -- no space stands after `.`, a prefix operator, the star that begins an argument and the colon of an index
-abbrev pub holds_on : Option GroupKind → List Item → Item → Bool
-holds_on within before x =
+abbrev pub no_space_after : Option GroupKind → List Item → Item → Bool
+no_space_after within before x =
     is_operator (codes "." ∷ []) x
     || is_operator (codes "+" ∷ codes "-" ∷ codes "~" ∷ []) x && begins_operand before
     || is_operator (codes "*" ∷ codes "**" ∷ []) x && is_empty before && map_or false is_call within
@@ -51,4 +51,4 @@ holds_on within before x =
 -- the gap before x, where `first` stands before the first node
 abbrev pub gap_before : Option GroupKind → Gap → List Item → Item → Gap
 gap_before within first [] x = first
-gap_before within first (y ∷ before) x = if holds_on within before y || closes_up x then Closed else Space
+gap_before within first (y ∷ before) x = if no_space_after within before y || no_space_before x then Closed else Space

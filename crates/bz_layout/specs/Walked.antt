@@ -16,16 +16,16 @@ use Rattle.bz_layout.specs.declared.spacing.Gap.TheVariants.{Closed, Space, Line
 use Rattle.bz_layout.specs.declared.broken.Style.{Style}
 use Rattle.bz_layout.specs.declared.broken.Style.TheVariants.{Flat, Broken}
 use Rattle.bz_layout.specs.Respell.{respell}
-use Rattle.bz_layout.specs.Spacing.{hugs}
+use Rattle.bz_layout.specs.Spacing.{is_group_without_space}
 use Rattle.bz_layout.specs.Broken.{breaks_by_count}
 use Rattle.bz_layout.specs.Pieces.{Piece, piece, bytes_of, comma_if, comments, comment_lines, suffix_piece}
 use Rattle.bz_layout.specs.Layout.{breaks, has_commas, is_comment}
 
--- no space stands before `.`, `,`, `:` and a group that hugs
-abbrev pub closes_up : Item → Bool
-closes_up (leaf OperatorToken text) = bytes_eq text (codes ".") || bytes_eq text (codes ",") || bytes_eq text (codes ":")
-closes_up (leaf _ text) = false
-closes_up (group kind segs one_comma end) = hugs kind
+-- no space stands before `.`, `,`, `:` and such a group
+abbrev pub no_space_before : Item → Bool
+no_space_before (leaf OperatorToken text) = bytes_eq text (codes ".") || bytes_eq text (codes ",") || bytes_eq text (codes ":")
+no_space_before (leaf _ text) = false
+no_space_before (group kind segs one_comma end) = is_group_without_space kind
 
 -- at the start, after an operator other than `.` and after a keyword an operator begins an operand
 abbrev pub awaits_operand : Edge → Bool
@@ -58,18 +58,18 @@ edge_after within left (leaf _ text) = Operand
 edge_after within left (group kind segs one_comma end) = Operand
 
 -- the next node stands directly after `.`, a prefix, the star of an argument and the colon of an index
-abbrev pub holds_on : Edge → Bool
-holds_on Dotted = true
-holds_on Joined = true
-holds_on _ = false
+abbrev pub no_space_after : Edge → Bool
+no_space_after Dotted = true
+no_space_after Joined = true
+no_space_after _ = false
 
 -- the gap before what closes up or does not: at the start that of the nodes, else a space where neither neighbour closes up
 abbrev pub gap_for : Gap → Edge → Bool → Gap
 gap_for first Start closes = first
-gap_for first left closes = if holds_on left || closes then Closed else Space
+gap_for first left closes = if no_space_after left || closes then Closed else Space
 
 abbrev pub gap_before : Gap → Edge → Item → Gap
-gap_before first left x = gap_for first left (closes_up x)
+gap_before first left x = gap_for first left (no_space_before x)
 
 abbrev pub count : Segs → ℕ
 count no_segs = 0

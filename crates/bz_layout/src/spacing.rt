@@ -2,8 +2,8 @@
 
 ghost use Rattle.std.specs.Prelude.{◌≡◌, ◌≢◌, ◌∷◌, [], ◌||◌, MatchBool};
 ghost use Rattle.bz_tree.specs.Tree.{leaf};
-ghost use Rattle.bz_layout.specs.Spacing.{hugs};
-ghost use Rattle.bz_layout.specs.Walked.{closes_up, is_prefix, begins_argument, is_index_colon, operator_edge, edge_after};
+ghost use Rattle.bz_layout.specs.Spacing.{is_group_without_space};
+ghost use Rattle.bz_layout.specs.Walked.{no_space_before, is_prefix, begins_argument, is_index_colon, operator_edge, edge_after};
 
 use bz_token::Kind;
 use bz_tree::GroupKind;
@@ -35,8 +35,8 @@ pub enum Gap {
 }
 
 #[inline(always)]
-pub(crate) fn hugs(kind: GroupKind) -> bool
-    ensures { result ≡ hugs kind }
+pub(crate) fn is_group_without_space(kind: GroupKind) -> bool
+    ensures { result ≡ is_group_without_space kind }
 {
     matches!(
         kind,
@@ -54,7 +54,7 @@ pub(crate) fn is_byte(text: &str, byte: u8) -> bool
 
 #[inline(always)]
 pub(crate) fn token_closes_up(kind: Kind, text: &str) -> bool
-    ensures { result ≡ closes_up (leaf kind text.now) }
+    ensures { result ≡ no_space_before (leaf kind text.now) }
 {
     matches!(kind, Kind::Operator)
         && (is_byte(text, b'.') || is_byte(text, b',') || is_byte(text, b':'))

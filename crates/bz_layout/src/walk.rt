@@ -13,7 +13,7 @@ ghost use Rattle.bz_layout.specs.private.RowLayout.{Puts, Lays, LaysAlso, due, t
 use crate::append::NewLine;
 use crate::marks::BracketForm;
 use crate::respell::{put_written, stays};
-use crate::spacing::{Edge, Gap, hugs, is_byte, token_closes_up, token_edge};
+use crate::spacing::{Edge, Gap, is_byte, is_group_without_space, token_closes_up, token_edge};
 use crate::write::{brackets, put};
 use bumpalo::Bump;
 use bz_memory::{NoMemory, push, with_capacity};
@@ -209,7 +209,7 @@ impl<'b> RowWriter<'b> {
         requires { self.old.level + 1 < 2 ^ 64 }
         ensures { Lays result (opened kind) self.old (T.bytes out.old) self.new (T.bytes out.new) }
     {
-        self.put_gap(hugs(kind), out)?;
+        self.put_gap(is_group_without_space(kind), out)?;
         out.put_short(brackets(kind).0)?;
         push(&mut self.outer, self.here)?;
         let mark = self.marks.pop().unwrap_or(OpenBracket::top(None).mark);

@@ -23,7 +23,7 @@ use Rattle.bz_tree.specs.Brackets.{own_items, preceding, is_line, without_lines,
 use Rattle.bz_tree.specs.Elements.{has_for}
 use Rattle.bz_tree.specs.Elements.{Elem, single, bracket, Elems, no_elems, elem, elems_tokens, own_of, elem_own, elems_own, is_single, AreWell}
 use Rattle.bz_tree.specs.Kinds.{mark_of, kind_mark, operator_mark, group_kind, is_one}
-use Rattle.bz_tree.specs.Owners.{Own}
+use Rattle.bz_tree.specs.Owners.{Inner}
 use Rattle.bz_tree.specs.Cells.{Last, no_token, end_of_node, end_of_comma, entries_of, inside}
 use Rattle.bz_tree.specs.Statement.{IsStatementOf}
 use Rattle.bz_tree.specs.Elements.{rule_call, one_segment}
@@ -237,7 +237,7 @@ all_depth : (n : ℕ) (ss : Segs) → EachSegment (IsNoDeeper n) is_comment ss �
 all_depth n no_segs h = least n
 all_depth n (seg before nodes suffix ss) h = most (items_depth nodes) (segs_depth ss) n (nodes_depth n nodes h.2) (all_depth n ss h.4)
 
-more_depth : (n : ℕ) (one : Bool) (at : Last) (m : Mark) (t : Placed) (owns : List Own) → mark_of t ≡ m → is_single m ≡ true → is_token_text t ≡ true → ((last : Last) → Each (IsNoDeeper n) is_comment (entries_of last (own_items one owns)))
+more_depth : (n : ℕ) (one : Bool) (at : Last) (m : Mark) (t : Placed) (owns : List Inner) → mark_of t ≡ m → is_single m ≡ true → is_token_text t ≡ true → ((last : Last) → Each (IsNoDeeper n) is_comment (entries_of last (own_items one owns)))
     → Each (IsNoDeeper n) is_comment (entries_of at (own_items one (own_of m t ∷ owns)))
 more_depth n true at Comma t owns e ok is rest = (least n, rest (end_of_node t.line))
 more_depth n false at Comma t owns e ok is rest = rest (end_of_comma t.line)

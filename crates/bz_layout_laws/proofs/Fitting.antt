@@ -22,7 +22,7 @@ use Rattle.bz_layout.specs.declared.spacing.Edge.{Edge}
 use Rattle.bz_layout.specs.declared.spacing.Edge.TheVariants.{Start, Joined, Dotted, Operator, Operand}
 use Rattle.bz_layout.specs.declared.spacing.Gap.{Gap}
 use Rattle.bz_layout.specs.declared.spacing.Gap.TheVariants.{Closed, Space, Apart, Line}
-use Rattle.bz_layout.specs.Walked.{closes_up, edge_after, gap_before, count, is_broken, segs_hold, opening, closing}
+use Rattle.bz_layout.specs.Walked.{no_space_before, edge_after, gap_before, count, is_broken, segs_hold, opening, closing}
 use Rattle.bz_layout.specs.Pieces.{Piece, piece, indent, gap_bytes, comma_if, comments, comment_lines, suffix_piece}
 use Rattle.bz_layout.specs.Layout.{has_commas, is_comment as is_comment_class}
 use Rattle.bz_layout_laws.specs.FreeLayout.{Choice, breaks_by, inside, following, text_of, item_by, items_by, broken_by, flat_by, statement_by}
@@ -130,12 +130,12 @@ gap_stands : (opened : List ℕ) (first : Gap) (left : Edge) (x : Item) → Stan
 gap_stands opened first Start x h = h
 gap_stands opened first Joined x h = refl
 gap_stands opened first Dotted x h = refl
-gap_stands opened first Operator x h = closed_or_space opened (closes_up x)
+gap_stands opened first Operator x h = closed_or_space opened (no_space_before x)
   where
     closed_or_space : (opened : List ℕ) (b : Bool) → Stands opened (if b then Closed else Space)
     closed_or_space opened true = refl
     closed_or_space opened false = refl
-gap_stands opened first Operand x h = closed_or_space opened (closes_up x)
+gap_stands opened first Operand x h = closed_or_space opened (no_space_before x)
   where
     closed_or_space : (opened : List ℕ) (b : Bool) → Stands opened (if b then Closed else Space)
     closed_or_space opened true = refl

@@ -11,7 +11,7 @@ use Rattle.bz_tree.specs.Brackets.{leaf_of, own_items, preceding, is_for_item, e
 use Rattle.bz_tree.specs.Elements.{has_for}
 use Rattle.bz_tree.specs.Elements.{single, bracket, Elems, no_elems, elem, own_of, elems_own, is_single, AreWell}
 use Rattle.bz_tree.specs.Kinds.{mark_of}
-use Rattle.bz_tree.specs.Owners.{Own}
+use Rattle.bz_tree.specs.Owners.{Inner}
 use Rattle.bz_tree.specs.Cells.{Last, no_token, end_of_node, Entry, a_node, a_comma, a_comment, entries_of}
 use Rattle.bz_tree.specs.Tree.{Item, leaf, group, Items, no_items, item, Segs, no_segs, seg, list_of, segments}
 use Rattle.bz_layout_laws.specs.Written.{own_lines, suffix_entry, written_entries}
@@ -27,7 +27,7 @@ entries_have_for (a_comma ∷ es) = false
 entries_have_for (a_comment on text ∷ es) = entries_have_for es
 
 -- one more token
-one_more : (one : Bool) (at : Last) (m : Mark) (t : Placed) (owns : List Own) → mark_of t ≡ m → is_single m ≡ true → ((last : Last) → has_for owns ≡ entries_have_for (entries_of last (own_items one owns)))
+one_more : (one : Bool) (at : Last) (m : Mark) (t : Placed) (owns : List Inner) → mark_of t ≡ m → is_single m ≡ true → ((last : Last) → has_for owns ≡ entries_have_for (entries_of last (own_items one owns)))
     → has_for (own_of m t ∷ owns) ≡ entries_have_for (entries_of at (own_items one (own_of m t ∷ owns)))
 one_more true at Comma t owns e ok rest = ap (λ m. if is_comma_mark m then false else (is_for_item (leaf_of t) || entries_have_for (entries_of (end_of_node t.line) (own_items true owns)))) (sym e)
 one_more false at Comma t owns e ok rest = refl

@@ -10,8 +10,8 @@ use Rattle.bz_tree.specs.declared.tree.kinds.Preceding.{Preceding}
 use Rattle.bz_tree.specs.declared.tree.kinds.Preceding.TheVariants.{Other}
 use Rattle.bz_tree.specs.Tree.{Item, leaf, group, Segment, Statement, items_of, segs_of, is_rule}
 use Rattle.bz_tree.specs.Kinds.{mark_of, group_kind, is_one}
-use Rattle.bz_tree.specs.Owners.{Own, node, comma, comment, Inside}
-use Rattle.bz_tree.specs.Cells.{Last, no_token, end_of_node, end_of_comma, is_on, inside, no_empty}
+use Rattle.bz_tree.specs.Owners.{Inner, node, comma, comment, Inside}
+use Rattle.bz_tree.specs.Cells.{Last, no_token, end_of_node, end_of_comma, is_on, inside, no_empty_cell}
 use Rattle.bz_tree.specs.private.KindSteps.{own_item}
 use Rattle.bz_tree.specs.Brackets.{own_items, preceding, is_line, without_lines}
 use Rattle.bz_tree.specs.Elements.{has_for}
@@ -37,7 +37,7 @@ segment_owners s = s.before ∷ beside s.suffix ∷ nodes_owners s.nodes
 abbrev segments_owners : List Segment → Lists
 segments_owners ss = segs_owners (segs_of ss)
 
-abbrev own_owners : Own → Lists
+abbrev own_owners : Inner → Lists
 own_owners (node line x) = item_owners x
 own_owners (comma t) = []
 own_owners (comment line text) = (text ∷ []) ∷ []
@@ -54,7 +54,7 @@ segments_append [] rs = refl
 segments_append (s ∷ ss) rs = ap (λ l. segment_owners s ++ l) (segments_append ss rs) ∙ sym (append_assoc (segment_owners s) (segments_owners ss) (segments_owners rs))
 
 -- The comments of what stands in a bracket, one thing after another.
-abbrev AreSpelled : List Own → List (List ℕ) → Type 0
+abbrev AreSpelled : List Inner → List (List ℕ) → Type 0
 AreSpelled [] texts = texts ≡ []
 AreSpelled (o ∷ os) texts = (here : List (List ℕ)) × (more : List (List ℕ)) × (texts ≡ here ++ more) × AreMixed here (own_owners o) × AreSpelled os more
 
@@ -220,7 +220,7 @@ commented_fits (end_of_comma line) true text segs before nodes suffix after trai
 commented_fits (end_of_comma line) false text segs before nodes suffix after trailing none fits = record { nodes = none; last = tt }
 
 -- without commas no segment is finished
-abbrev has_comma : List Own → Bool
+abbrev has_comma : List Inner → Bool
 has_comma [] = false
 has_comma (comma t ∷ os) = true
 has_comma (node line x ∷ os) = has_comma os
@@ -235,7 +235,7 @@ commented_alone (end_of_comma line) true text w none = ap (to_last text) none
 commented_alone (end_of_comma line) false text w none = none
 
 -- the end of a walk
-record Ended (w : Walked) (os : List Own) (texts : List (List ℕ)) (i : Inside) : Type 0 where
+record Ended (w : Walked) (os : List Inner) (texts : List (List ℕ)) (i : Inside) : Type 0 where
   last : Walked
   holds : Holds last texts
   fits : Fits last
@@ -245,7 +245,7 @@ record Ended (w : Walked) (os : List Own) (texts : List (List ℕ)) (i : Inside)
 some_same : (x y : Inside) → Some x ≡ Some y → x ≡ y
 some_same x y e = cc
 
-walk_ends : (os : List Own) (w : Walked) (i : Inside) (texts more all : List (List ℕ)) → all ≡ texts ++ more → Fits w → Holds w texts → AreSpelled os more → walk w os ≡ Some i → Ended w os all i
+walk_ends : (os : List Inner) (w : Walked) (i : Inside) (texts more all : List (List ℕ)) → all ≡ texts ++ more → Fits w → Holds w texts → AreSpelled os more → walk w os ≡ Some i → Ended w os all i
 walk_ends [] w i texts more all all_is fits h spelled is = record {
   last = w;
   holds = subst (Holds w) (sym (all_is ∙ ap (λ l. texts ++ l) spelled ∙ append-nil texts)) h;
@@ -311,25 +311,25 @@ start_fits = record { nodes = (refl, refl); last = tt }
 start_holds : Holds at_start []
 start_holds = record { finished = []; rest = []; inner = []; all = (refl, refl); those = (refl, refl); segs = refl; nodes = refl }
 
-inside_ends : (os : List Own) (texts : List (List ℕ)) → no_empty false os ≡ true → AreSpelled os texts → Ended at_start os texts (inside os)
+inside_ends : (os : List Inner) (texts : List (List ℕ)) → no_empty_cell false os ≡ true → AreSpelled os texts → Ended at_start os texts (inside os)
 inside_ends os texts full spelled =
     let found : walk at_start os ≡ Some (inside os) = inside_found os ∙ ap (λ b. cond b (Some (inside os)) None) full in
     walk_ends os at_start (inside os) [] texts texts refl start_fits start_holds spelled found
 
-inside_mixed : (os : List Own) (texts : List (List ℕ)) → no_empty false os ≡ true → AreSpelled os texts → AreMixed texts (inside_owners (inside os))
+inside_mixed : (os : List Inner) (texts : List (List ℕ)) → no_empty_cell false os ≡ true → AreSpelled os texts → AreMixed texts (inside_owners (inside os))
 inside_mixed os texts full spelled =
     let e = inside_ends os texts full spelled in
     let w = e.last in
     subst (λ i. AreMixed texts (inside_owners i)) e.is (done_mixed w.segs w.before w.nodes w.suffix w.after w.last w.trailing texts e.fits.nodes e.holds)
 
 -- commas as nodes have no comments either
-own_item_owners : (one : Bool) (o : Own) → own_owners (own_item one o) ≡ own_owners o
+own_item_owners : (one : Bool) (o : Inner) → own_owners (own_item one o) ≡ own_owners o
 own_item_owners true (node line x) = refl
 own_item_owners true (comma t) = refl
 own_item_owners true (comment line text) = refl
 own_item_owners false o = refl
 
-items_spelled : (one : Bool) (os : List Own) (texts : List (List ℕ)) → AreSpelled os texts → AreSpelled (own_items one os) texts
+items_spelled : (one : Bool) (os : List Inner) (texts : List (List ℕ)) → AreSpelled os texts → AreSpelled (own_items one os) texts
 items_spelled one [] texts s = s
 items_spelled one (o ∷ os) texts s = (s.0, s.1, s.2, subst (AreMixed s.0) (sym (own_item_owners one o)) s.3, items_spelled one os s.1 s.4)
 
@@ -345,7 +345,7 @@ single_mixed Newline t alone = absurd (false≢true alone)
 single_mixed (Open s) t alone = absurd (false≢true alone)
 single_mixed (Close s) t alone = absurd (false≢true alone)
 
-group_mixed : (kind : GroupKind) (owns : List Own) (texts : List (List ℕ)) → no_empty false (own_items (is_one kind) owns) ≡ true → AreSpelled owns texts → AreMixed texts (item_owners (group_of kind owns))
+group_mixed : (kind : GroupKind) (owns : List Inner) (texts : List (List ℕ)) → no_empty_cell false (own_items (is_one kind) owns) ≡ true → AreSpelled owns texts → AreMixed texts (item_owners (group_of kind owns))
 group_mixed kind owns texts full spelled = inside_mixed (own_items (is_one kind) owns) texts full (items_spelled (is_one kind) owns texts spelled)
 
 -- brackets are no comments
@@ -369,7 +369,7 @@ mutual
       (comments_among (elem_tokens x), comments_among (elems_tokens xs), comments_append (elem_tokens x) (elems_tokens xs), elem_mixed x b well.0, elems_spelled xs (preceding b (elem_own b x)) well.1)
 
 -- At depth 0 there is one segment, and the end comments stand above it.
-no_commas : (os : List Own) → has_comma (own_items true os) ≡ false
+no_commas : (os : List Inner) → has_comma (own_items true os) ≡ false
 no_commas [] = refl
 no_commas (node line x ∷ os) = no_commas os
 no_commas (comma t ∷ os) = no_commas os
@@ -401,7 +401,7 @@ marked_owners : (b : Bool) (xs : List Item) → nodes_owners (cond b (rule_call 
 marked_owners true xs = calls_owners xs
 marked_owners false xs = refl
 
-segment_mixed : (owns : List Own) (texts : List (List ℕ)) → AreSpelled owns texts → AreMixed texts (segment_owners (segment_of owns))
+segment_mixed : (owns : List Inner) (texts : List (List ℕ)) → AreSpelled owns texts → AreMixed texts (segment_owners (segment_of owns))
 segment_mixed owns texts spelled =
     let os = own_items true owns in
     let e = inside_ends os texts (nodes_alone false owns) (items_spelled true owns texts spelled) in

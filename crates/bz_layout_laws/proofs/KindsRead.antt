@@ -14,8 +14,8 @@ use Rattle.bz_tree.specs.Elements.{has_for}
 use Rattle.bz_tree.specs.Elements.{group_of}
 use Rattle.bz_tree.specs.Elements.{Elem, single, bracket, Elems, no_elems, elem, own_of, elems_own, is_single, IsWell, AreWell}
 use Rattle.bz_tree.specs.Kinds.{mark_of, group_kind, is_one, after_item}
-use Rattle.bz_tree.specs.Owners.{Own, node, comma, comment, Inside}
-use Rattle.bz_tree.specs.Cells.{Last, no_token, end_of_node, end_of_comma, Entry, a_node, a_comma, a_comment, first_cell, other_cells, later_lines, same_line, below_last, nodes_in, cell_segment, with_segment, segments_from, no_empty, inside, inside_by_cells, entries_of}
+use Rattle.bz_tree.specs.Owners.{Inner, node, comma, comment, Inside}
+use Rattle.bz_tree.specs.Cells.{Last, no_token, end_of_node, end_of_comma, Entry, a_node, a_comma, a_comment, first_cell, other_cells, later_lines, same_line, below_last, nodes_in, cell_segment, with_segment, segments_from, no_empty_cell, inside, inside_by_cells, entries_of}
 use Rattle.bz_tree.specs.Tree.{Item, Segment, items_of, segs_of}
 use Rattle.bz_layout.specs.Walked.{count}
 use Rattle.bz_layout_laws.specs.Inside.{HasShape}
@@ -80,7 +80,7 @@ first_for (a_node x ∷ es) = ap (λ b. if is_comma x then false else (is_for_it
 first_for (a_comma ∷ es) = refl
 first_for (a_comment on text ∷ es) = first_for es
 
-first_filled : (at : Last) (os : List Own) → no_empty false os ≡ true → is_filled (nodes_in (first_cell (entries_of at os))) ≡ false → other_cells (entries_of at os) ≡ []
+first_filled : (at : Last) (os : List Inner) → no_empty_cell false os ≡ true → is_filled (nodes_in (first_cell (entries_of at os))) ≡ false → other_cells (entries_of at os) ≡ []
 first_filled at [] h none = refl
 first_filled at (node line x ∷ os) h none = absurd (false≢true (sym none))
 first_filled at (comma t ∷ os) h none = absurd (false≢true h)
@@ -98,14 +98,14 @@ segments_for cell (next ∷ cells) h = by (nodes_in cell) refl
     by [] e = absurd (false≢true (sym (ap is_filled (h (ap is_filled e)))))
     by (x ∷ xs) e = refl
 
-pub inside_for : (one : Bool) (xs : Elems) → AreWell Other xs → no_empty false (own_items one (elems_own Other xs)) ≡ true → have_for (segs_of (inside (own_items one (elems_own Other xs))).segs) ≡ has_for (elems_own Other xs)
+pub inside_for : (one : Bool) (xs : Elems) → AreWell Other xs → no_empty_cell false (own_items one (elems_own Other xs)) ≡ true → have_for (segs_of (inside (own_items one (elems_own Other xs))).segs) ≡ has_for (elems_own Other xs)
 inside_for one xs well filled =
     let os = own_items one (elems_own Other xs) in
     let es = entries_of no_token os in
     segments_for (first_cell es) (other_cells es) (first_filled no_token os filled) ∙ sym (first_for es) ∙ sym (owns_have_for one no_token Other xs well)
 
 -- an index or a comprehension has one segment, and so has `(x,)`
-pub no_cells : (at : Last) (os : List Own) → other_cells (entries_of at (own_items true os)) ≡ []
+pub no_cells : (at : Last) (os : List Inner) → other_cells (entries_of at (own_items true os)) ≡ []
 no_cells at [] = refl
 no_cells at (node line x ∷ os) = no_cells (end_of_node line) os
 no_cells at (comma t ∷ os) = no_cells (end_of_node t.line) os
@@ -118,7 +118,7 @@ one_cell s = by (is_filled s.nodes)
     by true = refl
     by false = refl
 
-at_most_one : (one : Bool) (os : List Own) → one ≡ true → nat_le (count (segs_of (inside (own_items one os)).segs)) 1 ≡ true
+at_most_one : (one : Bool) (os : List Inner) → one ≡ true → nat_le (count (segs_of (inside (own_items one os)).segs)) 1 ≡ true
 at_most_one false os h = absurd (false≢true h)
 at_most_one true os h =
     let es = entries_of no_token (own_items true os) in
@@ -132,7 +132,7 @@ paren_kind : (kind : GroupKind) → is_paren kind ≡ true → kind ≡ Paren
 paren_kind Paren h = refl
 paren_kind _ h = absurd (false≢true h)
 
-shape_read : (kind : GroupKind) (os : List Own) → HasShape kind (segs_of (inside (own_items (is_one kind) os)).segs) (is_paren kind && (length (inside (own_items (is_one kind) os)).segs == 1) && (inside (own_items (is_one kind) os)).trailing)
+shape_read : (kind : GroupKind) (os : List Inner) → HasShape kind (segs_of (inside (own_items (is_one kind) os)).segs) (is_paren kind && (length (inside (own_items (is_one kind) os)).segs == 1) && (inside (own_items (is_one kind) os)).trailing)
 shape_read kind os =
     let i = inside (own_items (is_one kind) os) in
     record {
@@ -142,7 +142,7 @@ shape_read kind os =
     }
 
 -- one more token
-more_along : (one : Bool) (at : Last) (m : Mark) (t : Placed) (b : Preceding) (owns : List Own) → mark_of t ≡ m → is_single m ≡ true → ((last : Last) → Along one (preceding b (own_of m t)) (entries_of last (own_items one owns)))
+more_along : (one : Bool) (at : Last) (m : Mark) (t : Placed) (b : Preceding) (owns : List Inner) → mark_of t ≡ m → is_single m ≡ true → ((last : Last) → Along one (preceding b (own_of m t)) (entries_of last (own_items one owns)))
     → Along one b (entries_of at (own_items one (own_of m t ∷ owns)))
 more_along true at Comma t b owns e ok rest = (λ is. refl, tt, subst (λ p. Along true p (entries_of (end_of_node t.line) (own_items true owns))) (sym (comma_leaf t.kind t.text (ap is_comma_mark e)).0) (rest (end_of_node t.line)))
 more_along false at Comma t b owns e ok rest = rest (end_of_comma t.line)

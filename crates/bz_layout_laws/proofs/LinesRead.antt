@@ -9,7 +9,7 @@ use Rattle.bz_tree.specs.declared.tree.kinds.Preceding.TheVariants.{Other}
 use Rattle.bz_tree.specs.Brackets.{own_items, as_node}
 use Rattle.bz_tree.specs.Elements.{single, bracket, Elems, no_elems, elem, elems_tokens, elems_own, own_of}
 use Rattle.bz_tree.specs.Kinds.{mark_of}
-use Rattle.bz_tree.specs.Owners.{Own}
+use Rattle.bz_tree.specs.Owners.{Inner}
 use Rattle.bz_tree.specs.Cells.{no_token, Entry, a_node, a_comma, a_comment, first_cell, other_cells, later_lines, same_line, below_last, nodes_in, comments_in, cell_segment, with_segment, segments_from, end_from, inside, entries_of}
 use Rattle.bz_tree.specs.Statement.{first_seen, IsStatementOf}
 use Rattle.bz_tree.specs.Elements.{rule_call, one_segment}
@@ -77,7 +77,7 @@ cell_lines (a_comment on text ∷ es) h none = by (is_filled (nodes_in es)) refl
     by true e gone = absurd (false≢true (sym (ap is_filled gone) ∙ e))
     by false e gone = refl
 
-token_starts : (m : Mark) (t : Placed) (os : List Own) → starts (first_cell (entries_of no_token (as_node (own_of m t) ∷ os))) ≡ true
+token_starts : (m : Mark) (t : Placed) (os : List Inner) → starts (first_cell (entries_of no_token (as_node (own_of m t) ∷ os))) ≡ true
 token_starts (Open shape) t os = refl
 token_starts (Close shape) t os = refl
 token_starts Comma t os = refl

@@ -5,7 +5,7 @@ use Rattle.bz_tree.specs.declared.tree.GroupKind.{GroupKind}
 use Rattle.bz_tree.specs.private.Productions.{join}
 use Rattle.bz_tree.specs.Tree.{Item, Items, no_items, item}
 use Rattle.bz_layout.specs.declared.spacing.Edge.{Edge}
-use Rattle.bz_layout.specs.Walked.{edge_after, holds_on}
+use Rattle.bz_layout.specs.Walked.{edge_after, no_space_after}
 use Rattle.bz_layout_laws.specs.Following.{MayStandIn, MayFollow}
 use Rattle.bz_layout_laws.specs.Legible.{begins_later, may_follow}
 use Rattle.bz_layout_laws.specs.TextsOfKinds.{HaveTexts}
@@ -23,12 +23,12 @@ pub record FollowAny (xs : Items) : Type 0 where
 -- such nodes, directly after the last of which nothing stands but by a mark of its own
 pub record FollowAlone (xs : Items) : Type 0 where
   pub any : FollowAny xs
-  pub rests : (within : Option GroupKind) (left : Edge) → holds_on (edge_over within left xs) ≡ false
+  pub rests : (within : Option GroupKind) (left : Edge) → no_space_after (edge_over within left xs) ≡ false
 
 -- the same of nodes that stand after an operand
 pub record FollowOperand (xs : Items) : Type 0 where
-  pub follow : (within : Option GroupKind) (left : Edge) → holds_on left ≡ false → MayFollow within left xs
-  pub rests : (within : Option GroupKind) (left : Edge) → holds_on left ≡ false → holds_on (edge_over within left xs) ≡ false
+  pub follow : (within : Option GroupKind) (left : Edge) → no_space_after left ≡ false → MayFollow within left xs
+  pub rests : (within : Option GroupKind) (left : Edge) → no_space_after left ≡ false → no_space_after (edge_over within left xs) ≡ false
 
 pub follow_none : FollowAny no_items
 follow_none = record { each = λ within left. tt }
@@ -38,13 +38,13 @@ operand_alone = record { follow = λ within left h. tt; rests = λ within left h
 
 -- one node more
 apart_follows : (left : Edge) (x : Item) → begins_later x ≡ false → may_follow left x ≡ true
-apart_follows left x h = ap (λ b. not (holds_on left && b)) h ∙ by (holds_on left)
+apart_follows left x h = ap (λ b. not (no_space_after left && b)) h ∙ by (no_space_after left)
   where
     by : (b : Bool) → not (b && false) ≡ true
     by true = refl
     by false = refl
 
-resting_follows : (left : Edge) (x : Item) → holds_on left ≡ false → may_follow left x ≡ true
+resting_follows : (left : Edge) (x : Item) → no_space_after left ≡ false → may_follow left x ≡ true
 resting_follows left x h = ap (λ b. not (b && begins_later x)) h
 
 pub item_any : {x : Item} {xs : Items} → StandsApart x → FollowAny xs → FollowAny (item x xs)
@@ -83,13 +83,13 @@ join_any {a} {b} first second = record { each = λ within left. join_may within 
 pub join_alone : {a b : Items} → FollowAny a → FollowAlone b → FollowAlone (join a b)
 join_alone {a} {b} first second = record {
   any = join_any first second.any;
-  rests = λ within left. ap holds_on (join_edge within left a b) ∙ second.rests within (edge_over within left a);
+  rests = λ within left. ap no_space_after (join_edge within left a b) ∙ second.rests within (edge_over within left a);
 }
 
 pub join_operand : {a b : Items} → FollowAlone a → FollowOperand b → FollowAlone (join a b)
 join_operand {a} {b} first second = record {
   any = record { each = λ within left. join_may within left a b (first.any.each within left) (second.follow within (edge_over within left a) (first.rests within left)) };
-  rests = λ within left. ap holds_on (join_edge within left a b) ∙ second.rests within (edge_over within left a) (first.rests within left);
+  rests = λ within left. ap no_space_after (join_edge within left a b) ∙ second.rests within (edge_over within left a) (first.rests within left);
 }
 
 -- texts of nodes that are joined

@@ -10,7 +10,7 @@ use Rattle.bz_layout.specs.declared.spacing.Edge.TheVariants.{Start, Joined, Dot
 use Rattle.bz_layout.specs.declared.spacing.Gap.{Gap}
 use Rattle.bz_layout.specs.declared.spacing.Gap.TheVariants.{Closed, Space, Line}
 use Rattle.bz_layout.specs.declared.broken.Style.TheVariants.{Broken}
-use Rattle.bz_layout.specs.Walked.{closes_up, edge_after, gap_before, count, is_broken, segs_hold, opening, closing, item_pieces, items_pieces, broken_segs, flat_segs, statement_line}
+use Rattle.bz_layout.specs.Walked.{no_space_before, edge_after, gap_before, count, is_broken, segs_hold, opening, closing, item_pieces, items_pieces, broken_segs, flat_segs, statement_line}
 use Rattle.bz_layout.proofs.SameLayout.{layout_is}
 use Rattle.bz_layout.specs.Pieces.{Piece, piece, comma_if, comments, comment_lines, suffix_piece}
 use Rattle.bz_layout.specs.Layout.{has_commas, is_comment, layout}
@@ -44,12 +44,12 @@ pub gap_is : (first : Gap) (left : Edge) (x : Item) → is_apart first ≡ false
 gap_is first Start x h = h
 gap_is first Joined x h = refl
 gap_is first Dotted x h = refl
-gap_is first Operator x h = closed_or_space (closes_up x)
+gap_is first Operator x h = closed_or_space (no_space_before x)
   where
     closed_or_space : (b : Bool) → is_apart (if b then Closed else Space) ≡ false
     closed_or_space true = refl
     closed_or_space false = refl
-gap_is first Operand x h = closed_or_space (closes_up x)
+gap_is first Operand x h = closed_or_space (no_space_before x)
   where
     closed_or_space : (b : Bool) → is_apart (if b then Closed else Space) ≡ false
     closed_or_space true = refl

@@ -2,8 +2,8 @@
 use Rattle.std.proofs.Common.{◌≡◌, ℕ, List, [], ◌∷◌, ◌++◌, map, Bool, true, false, cond, ◌&&◌, ◌||◌, Option, Some, None, refl, sym, ap, ◌∙◌, append-nil, drop}
 use Rattle.std.proofs.lemmas.Bool.{false≢true}
 use Rattle.bz_tree.specs.Tree.{Item, Segment}
-use Rattle.bz_tree.specs.Owners.{Own, node, comma, comment, Inside}
-use Rattle.bz_tree.specs.Cells.{Last, no_token, end_of_node, end_of_comma, is_on, no_empty, inside, Entry, a_node, a_comma, a_comment, first_cell, other_cells, same_line, later_lines, nodes_in, has_node, comments_in, above_last, beside_last, below_last, cell_segment, with_segment, segments_from, end_from, has_trailing_comma, inside_by_cells, entries_of}
+use Rattle.bz_tree.specs.Owners.{Inner, node, comma, comment, Inside}
+use Rattle.bz_tree.specs.Cells.{Last, no_token, end_of_node, end_of_comma, is_on, no_empty_cell, inside, Entry, a_node, a_comma, a_comment, first_cell, other_cells, same_line, later_lines, nodes_in, has_node, comments_in, above_last, beside_last, below_last, cell_segment, with_segment, segments_from, end_from, has_trailing_comma, inside_by_cells, entries_of}
 use Rattle.bz_layout_laws.specs.Written.{own_lines, suffix_entry, written_entries, HaveNodes}
 use Rattle.bz_tree.proofs.Trees.OneBracket.{trails, trails_comma, trails_comment, trailed_is}
 use Rattle.bz_token.specs.Common.{first_of, is_filled}
@@ -33,7 +33,7 @@ filled_comment : (b on : Bool) (text : List ℕ) (cell : List Entry) (cells : Li
 filled_comment b on text cell [] = refl
 filled_comment b on text cell (next ∷ cells) = refl
 
-filled_is : (b : Bool) (last : Last) (os : List Own) → no_empty b os ≡ filled b (first_cell (entries_of last os)) (other_cells (entries_of last os))
+filled_is : (b : Bool) (last : Last) (os : List Inner) → no_empty_cell b os ≡ filled b (first_cell (entries_of last os)) (other_cells (entries_of last os))
 filled_is b last [] = refl
 filled_is b last (node line x ∷ os) = filled_is true (end_of_node line) os ∙ filled_node b x (first_cell (entries_of (end_of_node line) os)) (other_cells (entries_of (end_of_node line) os))
 filled_is b last (comma t ∷ os) = ap (λ r. b && r) (filled_is false (end_of_comma t.line) os) ∙ filled_comma b (first_cell (entries_of (end_of_comma t.line) os)) (other_cells (entries_of (end_of_comma t.line) os))
@@ -43,7 +43,7 @@ filled_start : (cell : List Entry) (cells : List (List Entry)) → filled false 
 filled_start cell [] = refl
 filled_start cell (next ∷ cells) = refl
 
-no_empty_is : (os : List Own) → no_empty false os ≡ are_filled (first_cell (entries_of no_token os)) (other_cells (entries_of no_token os))
+no_empty_is : (os : List Inner) → no_empty_cell false os ≡ are_filled (first_cell (entries_of no_token os)) (other_cells (entries_of no_token os))
 no_empty_is os = filled_is false no_token os ∙ filled_start (first_cell (entries_of no_token os)) (other_cells (entries_of no_token os))
 
 -- comments on lines of their own
@@ -337,7 +337,7 @@ read_back trailing ss end h =
     let trails : has_trailing_comma (other_cells (written_entries trailing ss end)) ≡ (trailing && is_filled ss) = sym (trailed_is (first_cell es) (other_cells es)) ∙ (trails_back false trailing ss end h ∙ expected_is trailing ss) in
     rw (segments_back trailing ss end h, end_back trailing ss end h, trails) refl
 
-pub lines_read_back : (owns : List Own) (trailing : Bool) (ss : List Segment) (end : List (List ℕ)) → HaveNodes ss → entries_of no_token owns ≡ written_entries trailing ss end
+pub lines_read_back : (owns : List Inner) (trailing : Bool) (ss : List Segment) (end : List (List ℕ)) → HaveNodes ss → entries_of no_token owns ≡ written_entries trailing ss end
     → inside owns ≡ record { segs = ss; trailing = trailing && is_filled ss; end = end }
 lines_read_back owns trailing ss end h e = ap (λ es. inside_by_cells es) e ∙ read_back trailing ss end h
 
@@ -362,11 +362,11 @@ written_filled true (s ∷ ss) end h = comma_filled s (written_entries true ss e
 written_filled false (s ∷ t ∷ ss) end h = comma_filled s (written_entries false (t ∷ ss) end) h.0 ∙ written_filled false (t ∷ ss) end h.1
 written_filled false (s ∷ []) end h = rw (last_others s end) refl
 
-pub lines_filled : (owns : List Own) (trailing : Bool) (ss : List Segment) (end : List (List ℕ)) → HaveNodes ss → entries_of no_token owns ≡ written_entries trailing ss end → no_empty false owns ≡ true
+pub lines_filled : (owns : List Inner) (trailing : Bool) (ss : List Segment) (end : List (List ℕ)) → HaveNodes ss → entries_of no_token owns ≡ written_entries trailing ss end → no_empty_cell false owns ≡ true
 lines_filled owns trailing ss end h e = no_empty_is owns ∙ (ap filled_in e ∙ written_filled trailing ss end h)
 
-pub lines_back : (owns : List Own) (trailing : Bool) (ss : List Segment) (end : List (List ℕ)) → HaveNodes ss → entries_of no_token owns ≡ written_entries trailing ss end
-    → (inside owns ≡ record { segs = ss; trailing = trailing && is_filled ss; end = end }) × (no_empty false owns ≡ true)
+pub lines_back : (owns : List Inner) (trailing : Bool) (ss : List Segment) (end : List (List ℕ)) → HaveNodes ss → entries_of no_token owns ≡ written_entries trailing ss end
+    → (inside owns ≡ record { segs = ss; trailing = trailing && is_filled ss; end = end }) × (no_empty_cell false owns ≡ true)
 lines_back owns trailing ss end h e = (lines_read_back owns trailing ss end h e, lines_filled owns trailing ss end h e)
 
 -- the flag of a comment that stands first in its bracket plays no part

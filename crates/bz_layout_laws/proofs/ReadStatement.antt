@@ -14,7 +14,7 @@ use Rattle.bz_tree.specs.declared.tree.kinds.Preceding.{Preceding}
 use Rattle.bz_tree.specs.declared.tree.kinds.Preceding.TheVariants.{Other}
 use Rattle.bz_tree.specs.Brackets.{own_items, without_lines}
 use Rattle.bz_tree.specs.Elements.{Elems, elems_tokens, elems_own, AreWell}
-use Rattle.bz_tree.specs.Owners.{Own}
+use Rattle.bz_tree.specs.Owners.{Inner}
 use Rattle.bz_tree.specs.Cells.{Entry, a_node, no_token, entries_of}
 use Rattle.bz_tree.specs.Statement.{class_of, is_kept, is_load_word, statement_with, IsStatementOf, is_assign}
 use Rattle.bz_tree.specs.Elements.{segment_of}
@@ -100,7 +100,7 @@ finish c s tokens parsed tree =
 
 -- tokens whose entries are those of a statement
 tree_of : (c : Choice) (s : Statement) (tokens : List Placed) (ls : List Lexeme) (es : List Entry) → lexemes_from None (without_lines tokens) ≡ ls → Reads true Other ls es []
-    → ((owns : List Own) → entries_of no_token (own_items true owns) ≡ es → segment_of owns ≡ own_segment (spelled_by c s)) → Tree c s tokens
+    → ((owns : List Inner) → entries_of no_token (own_items true owns) ≡ es → segment_of owns ≡ own_segment (spelled_by c s)) → Tree c s tokens
 tree_of c s tokens ls es lexemes reads back =
     let r = reads.each no_token None (without_lines tokens) agree_none (lexemes ∙ sym (append-nil ls)) in
     record {

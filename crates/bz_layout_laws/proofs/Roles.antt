@@ -15,7 +15,7 @@ use Rattle.bz_tree.specs.Statement.{is_load_word}
 use Rattle.bz_tree.specs.private.KindSteps.{is_augmented}
 use Rattle.bz_tree.specs.Tree.{Item, leaf, group}
 use Rattle.bz_layout.specs.declared.spacing.Edge.{Edge}
-use Rattle.bz_layout.specs.Walked.{edge_after, holds_on}
+use Rattle.bz_layout.specs.Walked.{edge_after, no_space_after}
 use Rattle.bz_layout_laws.specs.Following.{MayStandIn}
 use Rattle.bz_layout_laws.specs.Legible.{is_later, begins_later}
 use Rattle.bz_layout_laws.specs.TextsOfKinds.{HasText}
@@ -58,7 +58,7 @@ pub record StandsApart (x : Item) : Type 0 where
 -- such a node, directly after which nothing stands but by a mark of its own
 pub record StandsAlone (x : Item) : Type 0 where
   pub node : StandsApart x
-  pub rests : (within : Option GroupKind) (left : Edge) → holds_on (edge_after within left x) ≡ false
+  pub rests : (within : Option GroupKind) (left : Edge) → no_space_after (edge_after within left x) ≡ false
 
 -- only operators begin so
 later_mark : (b : ℕ) → is_later b ≡ true → class_of b ≡ mark
@@ -153,7 +153,7 @@ operator_no_operand text =
     (either_role (is_augmented text) Augmented _ refl
     (either_role (is_infix text) Operator Stray refl refl)))))))))
 
-operand_rests : (x : Item) → is_operand (token_role x) ≡ true → (within : Option GroupKind) (left : Edge) → holds_on (edge_after within left x) ≡ false
+operand_rests : (x : Item) → is_operand (token_role x) ≡ true → (within : Option GroupKind) (left : Edge) → no_space_after (edge_after within left x) ≡ false
 operand_rests (leaf OperatorToken text) h within left = absurd (false≢true (sym (operator_no_operand text) ∙ h))
 operand_rests (leaf _ text) h within left = refl
 operand_rests (group kind segs one_comma end) h within left = refl

@@ -5,8 +5,8 @@ use Rattle.bz_tree.specs.declared.tree.GroupKind.{GroupKind}
 use Rattle.bz_tree.specs.Brackets.{is_paren, own_items}
 use Rattle.bz_tree.specs.Elements.{group_of}
 use Rattle.bz_tree.specs.Kinds.{is_one}
-use Rattle.bz_tree.specs.Owners.{Own}
-use Rattle.bz_tree.specs.Cells.{no_token, no_empty, entries_of}
+use Rattle.bz_tree.specs.Owners.{Inner}
+use Rattle.bz_tree.specs.Cells.{no_token, no_empty_cell, entries_of}
 use Rattle.bz_tree.specs.Tree.{group, Items, no_items, item, Segs, no_segs, seg, items_of, list_of, segs_of, segments}
 use Rattle.bz_layout_laws.specs.Written.{written_entries, HaveNodes}
 use Rattle.bz_layout_laws.proofs.WrittenBack.{group_back}
@@ -39,10 +39,10 @@ have_nodes c kind (seg before nodes suffix ss) h = (filled (inside c) nodes h.1,
     filled c no_items h = absurd (false≢true h)
     filled c (item x xs) h = refl
 
-pub group_same : (kind : GroupKind) (owns : List Own) (trailing : Bool) (ss : Segs) (one_comma : Bool) (end : List (List ℕ)) → HaveNodes (segments ss)
+pub group_same : (kind : GroupKind) (owns : List Inner) (trailing : Bool) (ss : Segs) (one_comma : Bool) (end : List (List ℕ)) → HaveNodes (segments ss)
     → (is_paren kind && (length (segments ss) == 1) && (trailing && is_filled (segments ss))) ≡ one_comma
     → entries_of no_token (own_items (is_one kind) owns) ≡ written_entries trailing (segments ss) end
-    → (group_of kind owns ≡ group kind ss one_comma end) × (no_empty false (own_items (is_one kind) owns) ≡ true)
+    → (group_of kind owns ≡ group kind ss one_comma end) × (no_empty_cell false (own_items (is_one kind) owns) ≡ true)
 group_same kind owns trailing ss one_comma end nodes comma_is e =
     let back = group_back kind owns trailing (segments ss) end nodes e in
     (back.0 ∙ (λ i. group kind (segs_same ss i) (comma_is i) end), back.1)

@@ -7,7 +7,7 @@ use Rattle.bz_layout.specs.declared.spacing.Edge.{Edge}
 use Rattle.bz_layout.specs.declared.spacing.Edge.TheVariants.{Start, Operator, Operand}
 use Rattle.bz_layout.specs.declared.spacing.Gap.{Gap}
 use Rattle.bz_layout.specs.declared.broken.Style.{Style}
-use Rattle.bz_layout.specs.Walked.{closes_up, edge_after, gap_before, count, have_comments, holds_broken, items_hold, segs_hold, is_broken, item_pieces, items_pieces, broken_segs, flat_segs}
+use Rattle.bz_layout.specs.Walked.{no_space_before, edge_after, gap_before, count, have_comments, holds_broken, items_hold, segs_hold, is_broken, item_pieces, items_pieces, broken_segs, flat_segs}
 use Rattle.bz_layout.specs.Walked as walked
 use Rattle.bz_layout.proofs.SameLayout.{layout_is}
 use Rattle.bz_layout.specs.Pieces.{piece, bytes_of}
@@ -16,7 +16,7 @@ use Rattle.bz_layout_laws.specs.Lineless.{lineless}
 use Rattle.bz_layout_laws.specs.Spelled.{spelled, spelled_items, spelled_segs, spelled_statement}
 use Rattle.bz_layout_laws.proofs.Respelled.{respelled_once}
 
-closes_spelled : (x : Item) → closes_up (spelled x) ≡ closes_up x
+closes_spelled : (x : Item) → no_space_before (spelled x) ≡ no_space_before x
 closes_spelled (leaf String text) = refl
 closes_spelled (leaf _ text) = refl
 closes_spelled (group kind segs one_comma end) = refl

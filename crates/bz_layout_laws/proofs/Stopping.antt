@@ -19,7 +19,7 @@ use Rattle.bz_layout.specs.declared.spacing.Edge.TheVariants.{Start, Joined, Dot
 use Rattle.bz_layout.specs.declared.spacing.Gap.{Gap}
 use Rattle.bz_layout.specs.declared.spacing.Gap.TheVariants.{Closed, Space}
 use Rattle.bz_layout.specs.Respell.{is_single, respell}
-use Rattle.bz_layout.specs.Walked.{closes_up, edge_after, holds_on, gap_before, is_prefix, begins_argument, is_index_colon, opening}
+use Rattle.bz_layout.specs.Walked.{no_space_before, edge_after, no_space_after, gap_before, is_prefix, begins_argument, is_index_colon, opening}
 use Rattle.bz_layout.specs.Pieces.{Piece, bytes_of}
 use Rattle.bz_layout_laws.specs.FreeLayout.{Choice, own, free, text_of, item_by}
 use Rattle.bz_layout_laws.specs.Legible.{is_later, may_follow, IsLegibleItem}
@@ -38,7 +38,7 @@ stops_all (b ∷ bs) = not (is_word_byte b) && not (is_quote b) && not (is_later
 
 -- what may stand directly after a node that leaves this edge
 abbrev pub may_stand : Edge → List ℕ → Bool
-may_stand e bytes = if holds_on e then not (begins is_later bytes) else stops_all bytes
+may_stand e bytes = if no_space_after e then not (begins is_later bytes) else stops_all bytes
 
 pub stops_may : (e : Edge) (bytes : List ℕ) → stops_all bytes ≡ true → may_stand e bytes ≡ true
 stops_may Start bytes h = h
@@ -134,7 +134,7 @@ mark_stops_all text more rest h = elim (or_cases (bytes_eq text (codes ".") || b
     at : (t : List ℕ) → bytes_eq text t ≡ true → stops_all ((t ++ more) ++ rest) ≡ true → stops_all ((text ++ more) ++ rest) ≡ true
     at t is h = ap (λ x. stops_all ((x ++ more) ++ rest)) (same_bytes text t is) ∙ h
 
-closed_up : (c : Choice) (kind : Kind) (text : List ℕ) (more rest : List ℕ) → closes_up (leaf kind text) ≡ true → stops_all ((text_of c kind text ++ more) ++ rest) ≡ true
+closed_up : (c : Choice) (kind : Kind) (text : List ℕ) (more rest : List ℕ) → no_space_before (leaf kind text) ≡ true → stops_all ((text_of c kind text ++ more) ++ rest) ≡ true
 closed_up own OperatorToken text more rest h = mark_stops_all text more rest h
 closed_up (free breaks inner others) OperatorToken text more rest h = mark_stops_all text more rest h
 closed_up c _ text more rest h = absurd (false≢true h)
@@ -143,7 +143,7 @@ abbrev spaced : Bool → Gap
 spaced c = if c then Closed else Space
 
 -- a node after its gap, where neither holds on
-spaced_stands : (c : Choice) (level : ℕ) (x : Item) (more : List Piece) (rest : List ℕ) (closes : Bool) → closes_up x ≡ closes → stops_all (before (item_by c level (spaced closes) x ++ more) rest) ≡ true
+spaced_stands : (c : Choice) (level : ℕ) (x : Item) (more : List Piece) (rest : List ℕ) (closes : Bool) → no_space_before x ≡ closes → stops_all (before (item_by c level (spaced closes) x ++ more) rest) ≡ true
 spaced_stands c level (leaf kind text) more rest false e = refl
 spaced_stands c level (leaf kind text) more rest true e = closed_up c kind text (bytes_of more) rest e
 spaced_stands c level (group kind segs one_comma end) more rest false e = refl
@@ -159,5 +159,5 @@ pub next_stands : (c : Choice) (level : ℕ) (first : Gap) (e : Edge) (x : Item)
 next_stands c level first Start x more rest started follows h = absurd (false≢true (sym started))
 next_stands c level first Joined x more rest started follows h = held_stands c level x more rest h follows
 next_stands c level first Dotted x more rest started follows h = held_stands c level x more rest h follows
-next_stands c level first Operator x more rest started follows h = spaced_stands c level x more rest (closes_up x) refl
-next_stands c level first Operand x more rest started follows h = spaced_stands c level x more rest (closes_up x) refl
+next_stands c level first Operator x more rest started follows h = spaced_stands c level x more rest (no_space_before x) refl
+next_stands c level first Operand x more rest started follows h = spaced_stands c level x more rest (no_space_before x) refl

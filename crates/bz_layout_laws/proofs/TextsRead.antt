@@ -21,7 +21,7 @@ use Rattle.bz_tree.specs.Elements.{has_for}
 use Rattle.bz_tree.specs.Elements.{Elem, single, bracket, Elems, no_elems, elem, elem_tokens, elems_tokens, own_of, elems_own, is_single, AreWell}
 use Rattle.bz_tree.specs.Comments.{beside}
 use Rattle.bz_tree.specs.Kinds.{mark_of, kind_mark, operator_mark, group_kind, is_one}
-use Rattle.bz_tree.specs.Owners.{Own}
+use Rattle.bz_tree.specs.Owners.{Inner}
 use Rattle.bz_tree.specs.Cells.{Last, no_token, end_of_node, end_of_comma, entries_of, inside}
 use Rattle.bz_tree.specs.Statement.{class_of, IsStatementOf}
 use Rattle.bz_tree.specs.Elements.{rule_call, one_segment}
@@ -97,7 +97,7 @@ comment_text Operator text e is = absurd (false≢true (sym (operator_comment te
 comment_text _ text e is = absurd (false≢true (ap is_comment_mark e))
 
 -- one more token
-more_texts : (one : Bool) (at : Last) (m : Mark) (t : Placed) (owns : List Own) → mark_of t ≡ m → is_single m ≡ true → is_token_text t ≡ true → ((last : Last) → Each HasText is_comment (entries_of last (own_items one owns)))
+more_texts : (one : Bool) (at : Last) (m : Mark) (t : Placed) (owns : List Inner) → mark_of t ≡ m → is_single m ≡ true → is_token_text t ≡ true → ((last : Last) → Each HasText is_comment (entries_of last (own_items one owns)))
     → Each HasText is_comment (entries_of at (own_items one (own_of m t ∷ owns)))
 more_texts true at Comma t owns e ok is rest = ((is, ap is_leaf_mark e), rest (end_of_node t.line))
 more_texts false at Comma t owns e ok is rest = rest (end_of_comma t.line)

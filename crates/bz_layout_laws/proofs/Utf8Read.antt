@@ -16,7 +16,7 @@ use Rattle.bz_tree.specs.Elements.{has_for}
 use Rattle.bz_tree.specs.Elements.{single, bracket, Elems, no_elems, elem, own_of, elems_own, is_single, AreWell}
 use Rattle.bz_tree.specs.Comments.{beside}
 use Rattle.bz_tree.specs.Kinds.{mark_of, group_kind, is_one}
-use Rattle.bz_tree.specs.Owners.{Own}
+use Rattle.bz_tree.specs.Owners.{Inner}
 use Rattle.bz_tree.specs.Cells.{Last, no_token, end_of_node, end_of_comma, entries_of, inside}
 use Rattle.bz_tree.specs.Statement.{IsStatementOf}
 use Rattle.bz_tree.specs.Elements.{rule_call, one_segment}
@@ -34,7 +34,7 @@ Passes q x = item_passes q x ≡ true
 abbrev passes_token : (List ℕ → Bool) → Placed → Bool
 passes_token q t = q t.text
 
-more_passes : (q : List ℕ → Bool) (one : Bool) (at : Last) (m : Mark) (t : Placed) (owns : List Own) → mark_of t ≡ m → is_single m ≡ true → q t.text ≡ true → ((last : Last) → Each (Passes q) q (entries_of last (own_items one owns)))
+more_passes : (q : List ℕ → Bool) (one : Bool) (at : Last) (m : Mark) (t : Placed) (owns : List Inner) → mark_of t ≡ m → is_single m ≡ true → q t.text ≡ true → ((last : Last) → Each (Passes q) q (entries_of last (own_items one owns)))
     → Each (Passes q) q (entries_of at (own_items one (own_of m t ∷ owns)))
 more_passes q true at Comma t owns e ok is rest = (is, rest (end_of_node t.line))
 more_passes q false at Comma t owns e ok is rest = rest (end_of_comma t.line)

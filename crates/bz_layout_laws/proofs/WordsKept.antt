@@ -17,7 +17,7 @@ use Rattle.bz_tree.specs.declared.tree.kinds.Preceding.{Preceding}
 use Rattle.bz_tree.specs.declared.tree.kinds.Preceding.TheVariants.{Operand, LoadWord, Other}
 use Rattle.bz_tree.specs.Tree.{Item, leaf, group, Segs, Segment, Statement, items_of, segs_of, is_call, is_rule, is_rule_after}
 use Rattle.bz_tree.specs.Kinds.{mark_of, kind_mark, operator_mark, group_kind, is_one}
-use Rattle.bz_tree.specs.Owners.{Own, node, comma, comment}
+use Rattle.bz_tree.specs.Owners.{Inner, node, comma, comment}
 use Rattle.bz_tree.specs.Cells.{Last, no_token, end_of_node, end_of_comma, inside, Entry, a_node, a_comma, a_comment, first_cell, other_cells, later_lines, nodes_in, with_segment, cell_segment, below_last, same_line, segments_from, entries_of}
 use Rattle.bz_tree.specs.private.KindSteps.{own_item}
 use Rattle.bz_tree.specs.Brackets.{own_items, preceding, is_line, without_lines}
@@ -85,49 +85,49 @@ cut_words (a_comma ∷ es) = cut_words es
 cut_words (a_comment on text ∷ es) = aside_words on text (first_cell es) (other_cells es) ∙ cut_words es
 
 -- what stands in a bracket
-abbrev own_words : Own → List Word
+abbrev own_words : Inner → List Word
 own_words (node line x) = item_words x
 own_words (comma t) = []
 own_words (comment line text) = []
 
-abbrev owns_words : List Own → List Word
+abbrev owns_words : List Inner → List Word
 owns_words [] = []
 owns_words (o ∷ os) = own_words o ++ owns_words os
 
-entries_words : (last : Last) (os : List Own) → nodes_words (nodes_in (entries_of last os)) ≡ owns_words os
+entries_words : (last : Last) (os : List Inner) → nodes_words (nodes_in (entries_of last os)) ≡ owns_words os
 entries_words last [] = refl
 entries_words last (node line x ∷ os) = ap (λ words. item_words x ++ words) (entries_words (end_of_node line) os)
 entries_words last (comma t ∷ os) = entries_words (end_of_comma t.line) os
 entries_words last (comment line text ∷ os) = entries_words no_token os
 
 -- each comma is one
-abbrev IsComma : Own → Type 0
+abbrev IsComma : Inner → Type 0
 IsComma (node line x) = Unit {0}
 IsComma (comma t) = mark_of t ≡ Comma
 IsComma (comment line text) = Unit {0}
 
-abbrev AreCommas : List Own → Type 0
+abbrev AreCommas : List Inner → Type 0
 AreCommas [] = Unit {0}
 AreCommas (o ∷ os) = IsComma o × AreCommas os
 
 -- commas as nodes have no words either
-one_words : (one : Bool) (o : Own) → IsComma o → own_words (own_item one o) ≡ own_words o
+one_words : (one : Bool) (o : Inner) → IsComma o → own_words (own_item one o) ≡ own_words o
 one_words true (node line x) is = refl
 one_words true (comma t) is = ap (λ m. word_of m t.kind t.text) is
 one_words true (comment line text) is = refl
 one_words false o is = refl
 
-owns_one_words : (one : Bool) (os : List Own) → AreCommas os → owns_words (own_items one os) ≡ owns_words os
+owns_one_words : (one : Bool) (os : List Inner) → AreCommas os → owns_words (own_items one os) ≡ owns_words os
 owns_one_words one [] are = refl
 owns_one_words one (o ∷ os) are =
     ap (λ words. words ++ owns_words (own_items one os)) (one_words one o are.0) ∙ ap (λ words. own_words o ++ words) (owns_one_words one os are.1)
 
-inside_words : (os : List Own) → segments_words (inside os).segs ≡ owns_words os
+inside_words : (os : List Inner) → segments_words (inside os).segs ≡ owns_words os
 inside_words os =
     let es = entries_of no_token os in
     segments_from_words (first_cell es) (other_cells es) ∙ cut_words es ∙ entries_words no_token os
 
-group_words : (kind : GroupKind) (owns : List Own) → AreCommas owns → item_words (group_of kind owns) ≡ bracket_word (opening kind) ∷ owns_words owns ++ bracket_word (closing kind) ∷ []
+group_words : (kind : GroupKind) (owns : List Inner) → AreCommas owns → item_words (group_of kind owns) ≡ bracket_word (opening kind) ∷ owns_words owns ++ bracket_word (closing kind) ∷ []
 group_words kind owns are =
     ap (λ words. bracket_word (opening kind) ∷ words ++ bracket_word (closing kind) ∷ []) (inside_words (own_items (is_one kind) owns) ∙ owns_one_words (is_one kind) owns are)
 
@@ -251,7 +251,7 @@ mutual
       )
 
 -- outside brackets there is one cell
-one_cell : (last : Last) (os : List Own) → other_cells (entries_of last (own_items true os)) ≡ []
+one_cell : (last : Last) (os : List Inner) → other_cells (entries_of last (own_items true os)) ≡ []
 one_cell last [] = refl
 one_cell last (node line x ∷ os) = one_cell (end_of_node line) os
 one_cell last (comma t ∷ os) = one_cell (end_of_node t.line) os
@@ -298,7 +298,7 @@ marked_words : (b : Bool) (xs : List Item) → is_rule xs ≡ b → nodes_words 
 marked_words true xs is = rule_words xs is
 marked_words false xs is = refl
 
-segment_words : (owns : List Own) → AreCommas owns → nodes_words (segment_of owns).nodes ≡ owns_words owns
+segment_words : (owns : List Inner) → AreCommas owns → nodes_words (segment_of owns).nodes ≡ owns_words owns
 segment_words owns are =
     let os = own_items true owns in
     let es = entries_of no_token os in

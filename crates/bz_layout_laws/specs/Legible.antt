@@ -12,7 +12,7 @@ use Rattle.bz_tree.specs.Comments.{beside}
 use Rattle.bz_tree.specs.Tree.{Item, leaf, group, Items, no_items, item, Segs, no_segs, seg, Statement, items_of}
 use Rattle.bz_layout.specs.declared.spacing.Edge.{Edge}
 use Rattle.bz_layout.specs.declared.spacing.Edge.TheVariants.{Start}
-use Rattle.bz_layout.specs.Walked.{edge_after, holds_on}
+use Rattle.bz_layout.specs.Walked.{edge_after, no_space_after}
 use Rattle.bz_layout.specs.Layout.{is_comment as is_comment_class}
 use Rattle.bz_token.specs.Common.{begins}
 
@@ -33,7 +33,7 @@ begins_later (group kind segs one_comma end) = false
 -- A node stands directly after `.`, a prefix, an argument's star and the colon of an index. There it begins with no byte that
 -- makes one operator of two, as in `-` and `=`; by the grammar none does.
 abbrev pub may_follow : Edge → Item → Bool
-may_follow left x = not (holds_on left && begins_later x)
+may_follow left x = not (no_space_after left && begins_later x)
 
 abbrev pub are_some : Items → Bool
 are_some no_items = false

@@ -4,7 +4,7 @@ ghost use Rattle.std.specs.Prelude.{◌≡◌, ℕ, List, ◌∷◌, Bool, true,
 ghost use Rattle.bz_tree.specs.declared.tree.GroupKind.{GroupKind};
 ghost use Rattle.bz_tree.specs.Kinds.{is_one};
 ghost use Rattle.bz_tree.specs.Tree.{Segment, group, segs_of};
-ghost use Rattle.bz_tree.specs.Owners.{Own, no_empty, inside};
+ghost use Rattle.bz_tree.specs.Owners.{Inner, no_empty_cell, inside};
 ghost use Rattle.bz_tree.specs.Cells.{no_token, inside_by_cells, entries_of};
 ghost use Rattle.bz_layout_laws.specs.Written.{written_entries, HaveNodes};
 ghost use Rattle.bz_tree.specs.Brackets.{own_items, is_paren, group_of};
@@ -18,32 +18,32 @@ pub fn owners_read_back()
     ensures entries { (trailing : Bool) (segs : List Segment) (end : List (List ℕ)) → HaveNodes segs
         → inside_by_cells (written_entries trailing segs end)
         ≡ record { segs = segs; trailing = trailing && is_filled segs; end = end } }
-    ensures lines { (owns : List Own) (trailing : Bool) (segs : List Segment) (end : List (List ℕ)) → HaveNodes segs
+    ensures lines { (owns : List Inner) (trailing : Bool) (segs : List Segment) (end : List (List ℕ)) → HaveNodes segs
         → entries_of no_token owns ≡ written_entries trailing segs end
         → (inside owns ≡ record { segs = segs; trailing = trailing && is_filled segs; end = end })
-        × (no_empty owns ≡ true) }
+        × (no_empty_cell owns ≡ true) }
 {}
 
 /// So a group is read back whose inside stands so.
 pub fn group_read_back()
-    ensures { (kind : GroupKind) (owns : List Own) (trailing : Bool) (segs : List Segment) (end : List (List ℕ))
+    ensures { (kind : GroupKind) (owns : List Inner) (trailing : Bool) (segs : List Segment) (end : List (List ℕ))
         → HaveNodes segs → entries_of no_token (own_items (is_one kind) owns) ≡ written_entries trailing segs end
         → (group_of kind owns
         ≡ group kind (segs_of segs) (is_paren kind && (length segs == 1) && (trailing && is_filled segs)) end)
-        × (no_empty (own_items (is_one kind) owns) ≡ true) }
+        × (no_empty_cell (own_items (is_one kind) owns) ≡ true) }
 {}
 
 /// Outside brackets a statement is read back that stands so: the comments above it, its nodes, the comment beside
 /// the last.
 pub fn statement_read_back()
-    ensures { (owns : List Own) (s : Segment) → is_filled s.nodes ≡ true
+    ensures { (owns : List Inner) (s : Segment) → is_filled s.nodes ≡ true
         → entries_of no_token (own_items true owns) ≡ written_entries false (s ∷ []) []
         → segment_of owns ≡ with_rule_call s }
 {}
 
 /// Outside brackets comment lines alone are read back.
 pub fn comment_lines_read_back()
-    ensures { (owns : List Own) (texts : List (List ℕ)) → entries_of no_token (own_items true owns)
+    ensures { (owns : List Inner) (texts : List (List ℕ)) → entries_of no_token (own_items true owns)
         ≡ written_entries false [] texts
         → segment_of owns ≡ record { before = texts; nodes = []; suffix = None } }
 {}

@@ -108,6 +108,6 @@ pub failures_alone : {S T C M A : Type 0} (m : Meaning S T C M) (f : M → List 
     → ((c : C) (slot : Slot S) → test c slot ≡ false → flat_map f (m.says c slot) ≡ [])
     → (ps : List (Pass T C)) (slots : List (Slot S)) (slot : Slot S) → some_execution m test ps slots ≡ false
     → flat_map f (all_logs (kept_of m ps (slots ++ slot ∷ []))) ≡ flat_map f (all_logs (kept_alone m ps slot))
-failures_alone m f test quiet ps slots slot calm =
+failures_alone m f test quiet ps slots slot none_fails =
     ap (λ k. flat_map f (all_logs k)) (kept_more m ps slots slot)
-    ∙ kept_and_more m f ps slots slot (none_kept m f test quiet ps slots calm)
+    ∙ kept_and_more m f ps slots slot (none_kept m f test quiet ps slots none_fails)

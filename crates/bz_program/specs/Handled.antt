@@ -137,7 +137,7 @@ folder_of (Some home) = home
 pub record IsUnopenedAs {D : Type 0} (absent : D → List ℕ → Type 0) (folder : D) (home : Package) (path : List ℕ) (account : Account) : Type 0 where
   pub tried : IsTried absent folder home path
   pub why : CannotOpen
-  pub is_absent : why ≡ Absent → absent folder path
+  pub absent_note : why ≡ Absent → absent folder path
   pub account_is : account ≡ failed_account (unopened_text (folder_of home) path why)
 
 -- the account of the file at that path

@@ -11,7 +11,7 @@ use Rattle.bz_label.specs.LabelSetViews.{Gains, has as holds_label}
 use Rattle.bz_label.specs.declared.label_set.LabelSet.{LabelSet}
 use Rattle.bz_rule.specs.Add.{add, add_by_value, adds, fresh, is_fresh, new_elements, with_added}
 use Rattle.bz_rule.proofs.Adds.{by_value_is}
-use Rattle.bz_attribute.specs.Effects.{argument, done, edit_first, has, list_item, not_a_list, string, with_args}
+use Rattle.bz_attribute.specs.Effects.{argument, done, edit_first, has, list_item, no_list_note, string, with_args}
 use Rattle.bz_attribute.specs.Elements.{AreElementsTo, AreLists, IsListIn, IsValueAt}
 use Rattle.bz_attribute.specs.Lists.{parts, same, with_value}
 use Rattle.bz_attribute.specs.ListWalk.{edit_first_part}
@@ -85,19 +85,19 @@ adding_ends home lists values i set before now a h =
 
 -- what it tells
 abbrev pub told : Package → List ℕ → List (List ℕ) → List Segment → Done
-told home attr values args = done (not_a_list attr (first_named attr args)) (adds home values (first_named attr args))
+told home attr values args = done (no_list_note attr (first_named attr args)) (adds home values (first_named attr args))
 
 pub told_absent : (home : Package) (attr : List ℕ) (values : List (List ℕ)) (args : List Segment) → has attr args ≡ false → done None true ≡ told home attr values args
-told_absent home attr values args none = sym (ap (λ (a : Option Segment). done (not_a_list attr a) (adds home values a)) (none_first attr args none))
+told_absent home attr values args none = sym (ap (λ (a : Option Segment). done (no_list_note attr a) (adds home values a)) (none_first attr args none))
 
 pub told_no_list : (home : Package) (attr : List ℕ) (values : List (List ℕ)) (args : List Segment) (a : Segment) → first_named attr args ≡ Some a → parts (value a) ≡ [] → done (Some (NotAList attr)) false ≡ told home attr values args
 told_no_list home attr values args a first none =
-    sym (ap (λ (b : Option Segment). done (not_a_list attr b) (adds home values b)) first ∙ ap (λ (b : Bool). done (if b then Some (NotAList attr) else None) (adds home values (Some a))) (ap is_empty none))
+    sym (ap (λ (b : Option Segment). done (no_list_note attr b) (adds home values b)) first ∙ ap (λ (b : Bool). done (if b then Some (NotAList attr) else None) (adds home values (Some a))) (ap is_empty none))
 
 pub told_list : (home : Package) (attr : List ℕ) (values : List (List ℕ)) (args : List Segment) (a : Segment) (ss : List Segment) (lists : List (List Segment)) (b : Bool) → first_named attr args ≡ Some a → parts (value a) ≡ ss ∷ lists
     → not (is_empty (new_elements home (parts (value a)) values)) ≡ b → done None b ≡ told home attr values args
 told_list home attr values args a ss lists b first some is =
-    sym (ap (λ (c : Option Segment). done (not_a_list attr c) (adds home values c)) first
+    sym (ap (λ (c : Option Segment). done (no_list_note attr c) (adds home values c)) first
     ∙ ap (λ (c : Bool). done (if c then Some (NotAList attr) else None) (adds home values (Some a))) (ap is_empty some) ∙ ap (done None) is)
 
 -- whether there is something new

@@ -10,12 +10,12 @@ use Rattle.bz_token.specs.Common.{is_empty, map_or}
 use Rattle.bz_tree.specs.Tree.{Segment}
 use Rattle.bz_label.specs.Labels.{Package}
 use Rattle.bz_label.specs.Same.{completed}
-use Rattle.bz_label.specs.declared.arguments.Moved.TheVariants.{Values}
+use Rattle.bz_label.specs.declared.arguments.Chosen.TheVariants.{Values}
 use Rattle.bz_label.proofs.ReadBack.{quoted_value}
 use Rattle.bz_attribute.specs.Rules.{first_named, is_named, string_value, value}
 use Rattle.bz_attribute.specs.Lists.{equals, parts, same, with_value}
 use Rattle.bz_attribute.specs.ListWalk.{edit_first_part}
-use Rattle.bz_attribute.specs.Effects.{argument, edit_first, has, is_chosen, list_item, not_a_list, string}
+use Rattle.bz_attribute.specs.Effects.{argument, edit_first, has, is_chosen, list_item, no_list_note, string}
 use Rattle.bz_attribute.specs.declared.done.Note.TheVariants.{NotAList}
 use Rattle.bz_attribute.proofs.LabelSets.{any_joined}
 use Rattle.bz_attribute.proofs.Locals.{has_first}
@@ -151,7 +151,7 @@ pub add_is : (home : Package) (attr : List ℕ) (values : List (List ℕ)) (args
 add_is home attr values args = by (first_named attr args) refl
   where
     made : Option Segment → List Segment
-    made o = if is_some (not_a_list attr o) then args else add_at home attr values args o
+    made o = if is_some (no_list_note attr o) then args else add_at home attr values args o
 
     by : (o : Option Segment) → first_named attr args ≡ o → made (first_named attr args) ≡ add_by_value home attr values args
     by None e = ap made e ∙ add_absent home attr values args (has_first attr args ∙ ap is_some e)

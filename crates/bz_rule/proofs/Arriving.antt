@@ -11,7 +11,7 @@ use Rattle.bz_tree.specs.declared.row.Part.{Part}
 use Rattle.bz_tree.specs.Rows.{RowPart, part_view, segs_parts}
 use Rattle.bz_tree.specs.Tree.{Segment, segs_of}
 use Rattle.bz_label.specs.Labels.{Package}
-use Rattle.bz_label.specs.declared.arguments.Moved.TheVariants.{All}
+use Rattle.bz_label.specs.declared.arguments.Chosen.TheVariants.{All}
 use Rattle.bz_attribute.specs.Lists.{equals, same}
 use Rattle.bz_rule.specs.Move.{arrivals}
 use Rattle.bz_attribute.specs.Rules.{string_value}

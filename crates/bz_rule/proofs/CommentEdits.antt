@@ -5,7 +5,7 @@ use Rattle.std.proofs.lemmas.Bool.{false≢true}
 use Rattle.bz_token.specs.Common.{map_or}
 use Rattle.bz_tree.specs.Tree.{Segment, Statement}
 use Rattle.bz_label.specs.Labels.{Package}
-use Rattle.bz_attribute.specs.Effects.{done, edit_first, has, holds_rule, is_absent}
+use Rattle.bz_attribute.specs.Effects.{done, edit_first, has, holds_rule, absent_note}
 use Rattle.bz_attribute.specs.Rules.{Rule, first_named, is_named, rule_of}
 use Rattle.bz_attribute.specs.declared.done.Done.{Done}
 use Rattle.bz_attribute.specs.declared.done.Note.TheVariants.{NoAttribute}
@@ -31,12 +31,12 @@ with_comments edit a = record a { before = (edit (own_comments a)).before; suffi
 -- The command edits the comments of the first argument of the name; without one it tells that. Only the last field needs a thought.
 pub record EditsComments (c : Command) (home : Package) (attr : List ℕ) (changes : Comments → Bool) (edit : Comments → Comments) : Type 0 where
   pub after : (args : List Segment) → args_after c home args ≡ edit_first (is_named attr) (λ a. with_comments edit a ∷ []) args
-  pub told : (args : List Segment) → args_done c home args ≡ done (is_absent attr args) (map_or false (λ a. changes (own_comments a)) (first_named attr args))
+  pub told : (args : List Segment) → args_done c home args ≡ done (absent_note attr args) (map_or false (λ a. changes (own_comments a)) (first_named attr args))
   pub local : IfSome (one_attribute c) (Local c home)
   pub changed : ChangesComments changes edit
 
 -- one that always changes something tells so
-pub always : (attr : List ℕ) (args : List Segment) → done (is_absent attr args) true ≡ done (is_absent attr args) (map_or false (λ a. true) (first_named attr args))
+pub always : (attr : List ℕ) (args : List Segment) → done (absent_note attr args) true ≡ done (absent_note attr args) (map_or false (λ a. true) (first_named attr args))
 always attr args =
     let told : Bool → Bool → Done = λ b changes. done (if b then None else Some (NoAttribute attr)) changes in
     ap (λ (b : Bool). told b true) (has_first attr args)

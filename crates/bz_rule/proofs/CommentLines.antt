@@ -7,7 +7,7 @@ use Rattle.bz_tree.specs.Rows.{RowPart, above, parts_of}
 use Rattle.bz_tree.specs.Tree.{Item, Segment, Statement}
 use Rattle.bz_label.specs.Labels.{Package}
 use Rattle.bz_rule.specs.Comment.{comment_element, comment_line, comment_note, comment_value, is_blank, trimmed}
-use Rattle.bz_attribute.specs.Effects.{done, edit_first, has, is_absent, with_args, with_comment}
+use Rattle.bz_attribute.specs.Effects.{done, edit_first, has, absent_note, with_args, with_comment}
 use Rattle.bz_attribute.specs.ListWalk.{edit_element}
 use Rattle.bz_attribute.specs.Elements.{IsFirstEqual, IsListIn, IsValueAt, elements_left}
 use Rattle.bz_attribute.specs.Lists.{equals, parts}
@@ -63,7 +63,7 @@ trim_end (b ∷ bs) h =
     ap trimmed split ∙ trimmed_other (take (length (b ∷ bs) - 1) (b ∷ bs)) (get_or (b ∷ bs) (length (b ∷ bs) - 1) 0) h ∙ sym split
 
 -- what is told
-pub argument_told : (attr : List ℕ) (args : List Segment) → has attr args ≡ true → done None true ≡ done (is_absent attr args) true
+pub argument_told : (attr : List ℕ) (args : List Segment) → has attr args ≡ true → done None true ≡ done (absent_note attr args) true
 argument_told attr args there = rw there refl
 
 pub no_list_told : (home : Package) (attr v : List ℕ) (args : List Segment) (a : Segment) → first_named attr args ≡ Some a → parts (value a) ≡ [] → done (Some (NotAList attr)) false ≡ done (comment_note home attr v args) true

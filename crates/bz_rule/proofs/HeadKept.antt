@@ -7,8 +7,8 @@ use Rattle.bz_tree.specs.Tree.{Item, Segment, Statement, is_operator_item, leaf}
 use Rattle.bz_label.specs.Labels.{Package}
 use Rattle.bz_label.specs.declared.arguments.Attributes.TheVariants.{Named}
 use Rattle.bz_label.specs.declared.arguments.Commented.TheVariants.{Rule as Above, Attribute, Value}
-use Rattle.bz_label.specs.declared.arguments.Moved.{Moved}
-use Rattle.bz_label.specs.declared.arguments.Moved.TheVariants.{Values}
+use Rattle.bz_label.specs.declared.arguments.Chosen.{Chosen}
+use Rattle.bz_label.specs.declared.arguments.Chosen.TheVariants.{Values}
 use Rattle.bz_label.specs.declared.arguments.Setting.TheVariants.{ToKind, ToValues}
 use Rattle.bz_attribute.specs.Rules.{Rule, rule_of, first_named, is_named, is_text, name_in, name_of, value, string_value}
 use Rattle.bz_attribute.specs.Lists.{edit_parts, equals, parts, with_value}
@@ -190,7 +190,7 @@ beside_put n new ss args h =
     elim (has new args) as (λ b. first_named n (if b then edit_first (is_named new) (λ a. with_value (nodes a) a ∷ []) args else args ++ argument new (list_item ss ∷ []) ∷ []) ≡ first_named n args)
     [ true ↦ first_beside n new (λ a. with_value (nodes a) a ∷ []) args h (λ a is. put n new (nodes a) a h is) | false ↦ first_before n args (argument new (list_item ss ∷ []) ∷ []) (new_one n new h) ]
 
-beside_moved : (home : Package) (n old new : List ℕ) (chosen : Moved) (args : List Segment) → bytes_eq old n ≡ false → bytes_eq new n ≡ false → first_named n (move home old new chosen args) ≡ first_named n args
+beside_moved : (home : Package) (n old new : List ℕ) (chosen : Chosen) (args : List Segment) → bytes_eq old n ≡ false → bytes_eq new n ≡ false → first_named n (move home old new chosen args) ≡ first_named n args
 beside_moved home n old new chosen args h g =
     let gone : List Segment = edit_first (is_named old) (filtered (unchosen home chosen)) args in
     let came : List Segment = arrivals home (elements_of (first_named new args)) (filter (is_chosen home chosen) (elements_of (first_named old args))) in
@@ -248,7 +248,7 @@ head_stays c home attr s r is h rule = head_beside c home s r (edits c attr is) 
 pub renamed_stays : (home : Package) (old new : List ℕ) (s : Statement) (r : Rule) → bytes_eq old (codes "name") ≡ false → bytes_eq new (codes "name") ≡ false → rule_of s.nodes ≡ Some r → KeepsHead 0 s (rule_after (Rename old new) home s)
 renamed_stays home old new s r h g rule = head_beside (Rename old new) home s r refl (λ args. beside_renamed (codes "name") old new args h g) rule
 
-pub moved_stays : (home : Package) (old new : List ℕ) (chosen : Moved) (s : Statement) (r : Rule) → bytes_eq old (codes "name") ≡ false → bytes_eq new (codes "name") ≡ false → rule_of s.nodes ≡ Some r
+pub moved_stays : (home : Package) (old new : List ℕ) (chosen : Chosen) (s : Statement) (r : Rule) → bytes_eq old (codes "name") ≡ false → bytes_eq new (codes "name") ≡ false → rule_of s.nodes ≡ Some r
     → KeepsHead 0 s (rule_after (Move old new chosen) home s)
 moved_stays home old new chosen s r h g rule = head_beside (Move old new chosen) home s r refl (λ args. beside_moved home (codes "name") old new chosen args h g) rule
 

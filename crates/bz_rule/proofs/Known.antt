@@ -9,7 +9,7 @@ use Rattle.bz_token.proofs.Classes.{same_bytes}
 use Rattle.bz_tree.specs.Tree.{Segment}
 use Rattle.bz_label.specs.Labels.{Package}
 use Rattle.bz_label.specs.Same.{completed}
-use Rattle.bz_label.specs.declared.arguments.Moved.TheVariants.{All, Values}
+use Rattle.bz_label.specs.declared.arguments.Chosen.TheVariants.{All, Values}
 use Rattle.bz_label.specs.declared.label_set.LabelSet.{LabelSet}
 use Rattle.bz_label.specs.LabelSetViews.{Gains, has}
 use Rattle.bz_attribute.specs.Lists.{same}

@@ -3,10 +3,10 @@ use Rattle.std.proofs.Common.{◌≡◌, ℕ, List, [], ◌∷◌, ◌++◌, Boo
 use Rattle.bz_tree.specs.Tree.{Segment}
 use Rattle.bz_label.specs.Labels.{Package}
 use Rattle.bz_attribute.specs.Rules.{first_named, is_named}
-use Rattle.bz_attribute.specs.Effects.{argument, edit_first, list_item, not_a_list, with_comment}
+use Rattle.bz_attribute.specs.Effects.{argument, edit_first, list_item, no_list_note, with_comment}
 use Rattle.bz_rule.specs.Add.{add, add_by_value, new_elements, with_added}
 use Rattle.bz_rule.proofs.Adds.{by_value_is}
-use Rattle.bz_rule.specs.Comment.{comment_attribute, comment_element, comment_line, comment_note, comment_value, is_missing}
+use Rattle.bz_rule.specs.Comment.{comment_attribute, comment_element, comment_line, comment_note, comment_value, no_value_note}
 use Rattle.bz_attribute.specs.RowPlaces.{IsLocal, LooksAt}
 use Rattle.bz_rule.specs.Set.{new_of, new_value, set, set_in}
 use Rattle.bz_attribute.specs.declared.done.Note.{Note}
@@ -50,10 +50,10 @@ comment_local attr text =
 
 -- the note of `comment ATTR VALUE`, by the argument
 abbrev pub note_of : Package → List ℕ → List ℕ → Option Segment → Option Note
-note_of home attr v o = option_or (if is_some o then None else Some (NoAttribute attr)) (option_or (not_a_list attr o) (is_missing home attr v o))
+note_of home attr v o = option_or (if is_some o then None else Some (NoAttribute attr)) (option_or (no_list_note attr o) (no_value_note home attr v o))
 
 pub note_by_first : (home : Package) (attr v : List ℕ) (args : List Segment) → comment_note home attr v args ≡ note_of home attr v (first_named attr args)
-note_by_first home attr v args = ap (λ (b : Bool). option_or (if b then None else Some (NoAttribute attr)) (option_or (not_a_list attr (first_named attr args)) (is_missing home attr v (first_named attr args)))) (has_first attr args)
+note_by_first home attr v args = ap (λ (b : Bool). option_or (if b then None else Some (NoAttribute attr)) (option_or (no_list_note attr (first_named attr args)) (no_value_note home attr v (first_named attr args)))) (has_first attr args)
 
 pub comment_value_local : (home : Package) (attr v text : List ℕ) → IsLocal attr (comment_value home attr v text)
 comment_value_local home attr v text =

@@ -10,8 +10,8 @@ use Rattle.bz_label.specs.Labels.{Package}
 use Rattle.bz_label.specs.Values.{quoted, value_of}
 use Rattle.bz_label.specs.declared.arguments.Attributes.{Attributes}
 use Rattle.bz_label.specs.declared.arguments.Attributes.TheVariants.{Every, Named}
-use Rattle.bz_label.specs.declared.arguments.Moved.{Moved}
-use Rattle.bz_label.specs.declared.arguments.Moved.TheVariants.{Values}
+use Rattle.bz_label.specs.declared.arguments.Chosen.{Chosen}
+use Rattle.bz_label.specs.declared.arguments.Chosen.TheVariants.{Values}
 use Rattle.bz_attribute.specs.Effects.{done, edit_first, filtered, is_chosen, unchosen, chooses}
 use Rattle.bz_attribute.specs.Lists.{edit_parts, is_attribute, parts, with_value, same}
 use Rattle.bz_rule.specs.Remove.{remove, removes}
@@ -56,7 +56,7 @@ chosen_text home words (Some text) = refl
 pub meant_chosen : (home : Package) (words : List (List ℕ)) → is_meant (map_or false (equals_one home words)) ≡ is_chosen home (Values words)
 meant_chosen home words = λ i s. chosen_text home words (only_text s.nodes) i
 
-pub left_unchosen : (home : Package) (chosen : Moved) (p : Option (List ℕ) → Bool) → is_meant p ≡ is_chosen home chosen → become_all p None ≡ unchosen home chosen
+pub left_unchosen : (home : Package) (chosen : Chosen) (p : Option (List ℕ) → Bool) → is_meant p ≡ is_chosen home chosen → become_all p None ≡ unchosen home chosen
 left_unchosen home chosen p same = λ i ss. (left_as_filter (is_meant p) ss ∙ ap (λ (q : Segment → Bool). filter (λ s. not (q s)) ss) same) i
 
 left_by_words : (home : Package) (words : List (List ℕ)) → become_all (map_or false (equals_one home words)) None ≡ unchosen home (Values words)
@@ -66,7 +66,7 @@ removed : (home : Package) (attributes : Attributes) (v : List ℕ) (values : Li
 removed home Every v values = λ i args. flat_map (λ a. if is_attribute a then filtered (left_by_words home (v ∷ values) i) a else a ∷ []) args
 removed home (Named attr) v values = λ i args. edit_first (is_named attr) (filtered (left_by_words home (v ∷ values) i)) args
 
-pub told_first : (home : Package) (chosen : Moved) (p : Option (List ℕ) → Bool) (o : Option Segment) → is_meant p ≡ is_chosen home chosen → map_or false (changes p) o ≡ map_or false (chooses home chosen) o
+pub told_first : (home : Package) (chosen : Chosen) (p : Option (List ℕ) → Bool) (o : Option Segment) → is_meant p ≡ is_chosen home chosen → map_or false (changes p) o ≡ map_or false (chooses home chosen) o
 told_first home chosen p None same = refl
 told_first home chosen p (Some a) same = ap (λ (q : Segment → Bool). list_any (list_any q) (parts (value a))) same
 

@@ -6,10 +6,10 @@ use Rattle.std.proofs.lemmas.List.{drop_all}
 use Rattle.bz_tree.specs.Rows.{RowPart, parts_of, segs_parts}
 use Rattle.bz_tree.specs.Tree.{Item, Segment, Statement, segs_of}
 use Rattle.bz_label.specs.Labels.{Package}
-use Rattle.bz_label.specs.declared.arguments.Moved.{Moved}
-use Rattle.bz_attribute.specs.Effects.{done, edit_first, filtered, is_chosen, not_a_list, with_args}
+use Rattle.bz_label.specs.declared.arguments.Chosen.{Chosen}
+use Rattle.bz_attribute.specs.Effects.{done, edit_first, filtered, is_chosen, no_list_note, with_args}
 use Rattle.bz_attribute.specs.Elements.{AreLists, elements_left}
-use Rattle.bz_attribute.specs.Lists.{is_joint, is_plus, parts, with_value}
+use Rattle.bz_attribute.specs.Lists.{may_be_in_sum, is_plus, parts, with_value}
 use Rattle.bz_attribute.specs.ListWalk.{edit_first_part, edit_list, edit_one_from, is_part, parts_from}
 use Rattle.bz_attribute.proofs.ListPieces.{edit_first_part_is, parts_are}
 use Rattle.bz_rule.specs.Move.{arrivals, elements_of, move, move_note, moves, put_in}
@@ -44,7 +44,7 @@ one_stays f start (x ∷ xs) h =
 no_part_stays : (f : List Segment → List Segment) (xs : List Item) → parts xs ≡ [] → edit_first_part f xs ≡ xs
 no_part_stays f xs h =
     edit_first_part_is f xs
-    ∙ elim (list_all is_joint xs) as (λ b. (if b then parts_from true xs else []) ≡ [] → (if b then edit_one_from f true xs else xs) ≡ xs)
+    ∙ elim (list_all may_be_in_sum xs) as (λ b. (if b then parts_from true xs else []) ≡ [] → (if b then edit_one_from f true xs else xs) ≡ xs)
     [ true ↦ λ k. one_stays f true xs k | false ↦ λ k. refl ] (sym (parts_are xs) ∙ h)
 
 pub put_nowhere : (name : List ℕ) (ss : List Segment) (s : Statement) (r : Rule) (ps : List RowPart) → IsRuleRow s r ps → HasNoListPart name s r ps → ps ≡ parts_of (with_args (put_in name ss) s)
@@ -73,10 +73,10 @@ of_target name s r ps (Some from) l = record {
 }
 
 -- the elements that arrive
-abbrev arriving : Package → List ℕ → List ℕ → Moved → Rule → List Segment
+abbrev arriving : Package → List ℕ → List ℕ → Chosen → Rule → List Segment
 arriving home old new chosen r = arrivals home (elements_of (first_named new r.args)) (filter (is_chosen home chosen) (elements_of (first_named old r.args)))
 
-arrived : (home : Package) (old new : List ℕ) (chosen : Moved) (p : Option (List ℕ) → Bool) (at : Lists) (s : Statement) (r : Rule) (ps : List RowPart) (places : List Place) → is_meant p ≡ is_chosen home chosen
+arrived : (home : Package) (old new : List ℕ) (chosen : Chosen) (p : Option (List ℕ) → Bool) (at : Lists) (s : Statement) (r : Rule) (ps : List RowPart) (places : List Place) → is_meant p ≡ is_chosen home chosen
     → IsListAt old s r ps at.from → IsTarget new s r ps at.to → HaveArrivals home p at ps places → parts_at ps places ≡ segs_parts (segs_of (arriving home old new chosen r))
 arrived home old new chosen p at s r ps places same from to have =
     let there = of_target new s r ps at.to to in
@@ -93,11 +93,11 @@ gone_from old p = edit_first (is_named old) (filtered (become_all p None))
 abbrev pub told_gone : List ℕ → (Option (List ℕ) → Bool) → List Segment → Done
 told_gone old p args = done None (map_or false (changes p) (first_named old args))
 
-tells : (home : Package) (old : List ℕ) (chosen : Moved) (p : Option (List ℕ) → Bool) (s : Statement) (r : Rule) (ps one : List RowPart) (gone : Edit) (b : Bool) → is_meant p ≡ is_chosen home chosen → IsRowEdit (gone_from old p) (told_gone old p) ps one gone
+tells : (home : Package) (old : List ℕ) (chosen : Chosen) (p : Option (List ℕ) → Bool) (s : Statement) (r : Rule) (ps one : List RowPart) (gone : Edit) (b : Bool) → is_meant p ≡ is_chosen home chosen → IsRowEdit (gone_from old p) (told_gone old p) ps one gone
     → gone.done.changed ≡ b → IsRuleRow s r ps → moves home old chosen r.args ≡ b
 tells home old chosen p s r ps one gone b same edit is h = sym (told_first home chosen p (first_named old r.args) same) ∙ sym (ap (λ (d : Done). d.changed) (edit.done s r h)) ∙ is
 
-pub not_moved : (home : Package) (old new : List ℕ) (chosen : Moved) (p : Option (List ℕ) → Bool) (ps one : List RowPart) (gone : Edit) → is_meant p ≡ is_chosen home chosen → IsRowEdit (gone_from old p) (told_gone old p) ps one gone → gone.done.changed ≡ false
+pub not_moved : (home : Package) (old new : List ℕ) (chosen : Chosen) (p : Option (List ℕ) → Bool) (ps one : List RowPart) (gone : Edit) → is_meant p ≡ is_chosen home chosen → IsRowEdit (gone_from old p) (told_gone old p) ps one gone → gone.done.changed ≡ false
     → IsRowEdit (λ x0. if moves home old chosen x0 then moved home old new chosen x0 else x0) (λ args. done None (moves home old chosen args)) ps one gone
 not_moved home old new chosen p ps one gone same edit quiet = record {
   within = edit.within;
@@ -105,7 +105,7 @@ not_moved home old new chosen p ps one gone same edit quiet = record {
   done = λ s r h. edit.done s r h ∙ ap (done None) (told_first home chosen p (first_named old r.args) same);
 }
 
-pub has_moved : (home : Package) (old new : List ℕ) (chosen : Moved) (p : Option (List ℕ) → Bool) (at : Lists) (ps one left out : List RowPart) (places : List Place) (gone e : Edit) → is_meant p ≡ is_chosen home chosen
+pub has_moved : (home : Package) (old new : List ℕ) (chosen : Chosen) (p : Option (List ℕ) → Bool) (at : Lists) (ps one left out : List RowPart) (places : List Place) (gone e : Edit) → is_meant p ≡ is_chosen home chosen
     → IsRowEdit (gone_from old p) (told_gone old p) ps one gone → gone.done.changed ≡ true → left ≡ replaced_at gone.place one ps
     → ((s : Statement) (r : Rule) → IsRuleRow s r ps → IsListAt old s r ps at.from) → ((s : Statement) (r : Rule) → IsRuleRow s r ps → IsTarget new s r ps at.to) → HaveArrivals home p at ps places
     → ((ss : List Segment) (s : Statement) (r : Rule) → parts_at ps places ≡ segs_parts (segs_of ss) → IsRuleRow s r left → out ≡ parts_of (with_args (put_in new ss) s))
@@ -123,29 +123,29 @@ has_moved home old new chosen p at ps one left out places gone e same edit some 
     ∙ ap parts_of (with_args_twice (put_in new ss) go s ∙ with_args_at (λ args. put_in new ss (go args)) (λ x0. if moves home old chosen x0 then moved home old new chosen x0 else x0) s r h.rule edits))
     (λ s r h. ap (done None) (sym (tells home old chosen p s r ps one gone true same edit some h)))
 
-has_argument : (old new : List ℕ) (args : List Segment) (a : Segment) → first_named old args ≡ Some a → move_note old new args ≡ option_or (not_a_list old (Some a)) (not_a_list new (first_named new args))
+has_argument : (old new : List ℕ) (args : List Segment) (a : Segment) → first_named old args ≡ Some a → move_note old new args ≡ option_or (no_list_note old (Some a)) (no_list_note new (first_named new args))
 has_argument old new args a first =
-    ap (λ (c : Bool). option_or (if c then None else Some (NoAttribute old)) (option_or (not_a_list old (first_named old args)) (not_a_list new (first_named new args)))) (is_there old args a first)
-    ∙ ap (λ (o : Option Segment). option_or (not_a_list old o) (not_a_list new (first_named new args))) first
+    ap (λ (c : Bool). option_or (if c then None else Some (NoAttribute old)) (option_or (no_list_note old (first_named old args)) (no_list_note new (first_named new args)))) (is_there old args a first)
+    ∙ ap (λ (o : Option Segment). option_or (no_list_note old o) (no_list_note new (first_named new args))) first
 
 pub no_list_to_leave : (old new : List ℕ) (s : Statement) (r : Rule) (ps : List RowPart) (b : Bool) → HasNoListPart old s r ps → done (Some (NotAList old)) false ≡ done (move_note old new r.args) b
 no_list_to_leave old new s r ps b lack =
     sym (ap (λ (n : Option Note). done n b) (has_argument old new r.args lack.there.arg lack.there.first
-    ∙ ap (λ (c : Bool). option_or (if c then Some (NotAList old) else None) (not_a_list new (first_named new r.args))) (ap is_empty lack.none)))
+    ∙ ap (λ (c : Bool). option_or (if c then Some (NotAList old) else None) (no_list_note new (first_named new r.args))) (ap is_empty lack.none)))
 
-has_list : (old new : List ℕ) (s : Statement) (r : Rule) (ps : List RowPart) (from : ℕ) → IsListAt old s r ps from → move_note old new r.args ≡ not_a_list new (first_named new r.args)
+has_list : (old new : List ℕ) (s : Statement) (r : Rule) (ps : List RowPart) (from : ℕ) → IsListAt old s r ps from → move_note old new r.args ≡ no_list_note new (first_named new r.args)
 has_list old new s r ps from l =
-    has_argument old new r.args l.there.arg l.there.first ∙ ap (λ (c : Bool). option_or (if c then Some (NotAList old) else None) (not_a_list new (first_named new r.args))) (ap is_empty l.list.lists)
+    has_argument old new r.args l.there.arg l.there.first ∙ ap (λ (c : Bool). option_or (if c then Some (NotAList old) else None) (no_list_note new (first_named new r.args))) (ap is_empty l.list.lists)
 
 pub no_list_to_come : (old new : List ℕ) (s : Statement) (r : Rule) (ps : List RowPart) (from : ℕ) (b : Bool) → IsListAt old s r ps from → HasNoListPart new s r ps → done (Some (NotAList new)) false ≡ done (move_note old new r.args) b
 no_list_to_come old new s r ps from b l lack =
-    sym (ap (λ (n : Option Note). done n b) (has_list old new s r ps from l ∙ ap (not_a_list new) lack.there.first ∙ ap (λ (c : Bool). if c then Some (NotAList new) else None) (ap is_empty lack.none)))
+    sym (ap (λ (n : Option Note). done n b) (has_list old new s r ps from l ∙ ap (no_list_note new) lack.there.first ∙ ap (λ (c : Bool). if c then Some (NotAList new) else None) (ap is_empty lack.none)))
 
 pub no_note : (old new : List ℕ) (s : Statement) (r : Rule) (ps : List RowPart) (from : ℕ) (to : Option ℕ) → IsListAt old s r ps from → IsTarget new s r ps to → move_note old new r.args ≡ None
-no_note old new s r ps from None l none = has_list old new s r ps from l ∙ ap (not_a_list new) (none_first new r.args none)
-no_note old new s r ps from (Some to) l there = has_list old new s r ps from l ∙ ap (not_a_list new) there.there.first ∙ ap (λ (c : Bool). if c then Some (NotAList new) else None) (ap is_empty there.list.lists)
+no_note old new s r ps from None l none = has_list old new s r ps from l ∙ ap (no_list_note new) (none_first new r.args none)
+no_note old new s r ps from (Some to) l there = has_list old new s r ps from l ∙ ap (no_list_note new) there.there.first ∙ ap (λ (c : Bool). if c then Some (NotAList new) else None) (ap is_empty there.list.lists)
 
-pub with_no_note : (home : Package) (old new : List ℕ) (chosen : Moved) (ps out : List RowPart) (e : Edit) → ((s : Statement) (r : Rule) → IsRuleRow s r ps → move_note old new r.args ≡ None)
+pub with_no_note : (home : Package) (old new : List ℕ) (chosen : Chosen) (ps out : List RowPart) (e : Edit) → ((s : Statement) (r : Rule) → IsRuleRow s r ps → move_note old new r.args ≡ None)
     → IsRowEdit (λ x0. if moves home old chosen x0 then moved home old new chosen x0 else x0) (λ args. done None (moves home old chosen args)) ps out e → IsRowEdit (move home old new chosen) (λ args. done (move_note old new args) (moves home old chosen args)) ps out e
 with_no_note home old new chosen ps out e none h = record {
   within = h.within;

@@ -4,7 +4,7 @@ use Rattle.std.specs.List.{flat_map, list_any}
 use Rattle.bz_token.specs.Common.{is_empty, map_or}
 use Rattle.bz_tree.specs.Tree.{Segment}
 use Rattle.bz_label.specs.Labels.{Package}
-use Rattle.bz_label.specs.declared.arguments.Moved.{Moved}
+use Rattle.bz_label.specs.declared.arguments.Chosen.{Chosen}
 use Rattle.bz_attribute.specs.Rules.{first_named, value}
 use Rattle.bz_attribute.specs.Lists.{parts}
 use Rattle.bz_attribute.specs.Effects.{chooses, is_chosen}
@@ -16,7 +16,7 @@ any_left : (p : Segment → Bool) (ss : List Segment) → list_any p ss ≡ not 
 any_left p [] = refl
 any_left p (s ∷ ss) = elim (p s) as (λ b. (b || list_any p ss) ≡ not (is_empty (cond b (s ∷ filter p ss) (filter p ss)))) [ true ↦ refl | false ↦ any_left p ss ]
 
-some_chosen : (home : Package) (chosen : Moved) (o : Option Segment) → map_or false (chooses home chosen) o ≡ not (is_empty (filter (is_chosen home chosen) (elements_of o)))
+some_chosen : (home : Package) (chosen : Chosen) (o : Option Segment) → map_or false (chooses home chosen) o ≡ not (is_empty (filter (is_chosen home chosen) (elements_of o)))
 some_chosen home chosen None = refl
 some_chosen home chosen (Some a) = sym (any_joined (is_chosen home chosen) (parts (value a))) ∙ any_left (is_chosen home chosen) (flat_map (λ ss. ss) (parts (value a)))
 
@@ -26,13 +26,13 @@ one_by_one false some true args new h = sym (ap (λ (b : Bool). if b then new el
 one_by_one false some false args new h = sym (ap (λ (b : Bool). if b then new else args) h)
 
 -- step by step
-abbrev pub move_steps : Package → List ℕ → List ℕ → Moved → List Segment → List Segment
+abbrev pub move_steps : Package → List ℕ → List ℕ → Chosen → List Segment → List Segment
 move_steps home old new chosen args = if is_some (move_note old new args) then args else moved_where home old new chosen args
 
-pub move_is : (home : Package) (old new : List ℕ) (chosen : Moved) (args : List Segment) → move home old new chosen args ≡ move_steps home old new chosen args
+pub move_is : (home : Package) (old new : List ℕ) (chosen : Chosen) (args : List Segment) → move home old new chosen args ≡ move_steps home old new chosen args
 move_is home old new chosen args =
     one_by_one (is_some (move_note old new args)) (moves home old chosen args) (is_empty (filter (is_chosen home chosen) (elements_of (first_named old args)))) args (moved home old new chosen args)
     (some_chosen home chosen (first_named old args))
 
-pub steps_are : (home : Package) (old new : List ℕ) (chosen : Moved) → move_steps home old new chosen ≡ move home old new chosen
+pub steps_are : (home : Package) (old new : List ℕ) (chosen : Chosen) → move_steps home old new chosen ≡ move home old new chosen
 steps_are home old new chosen = λ i args. sym (move_is home old new chosen args) i

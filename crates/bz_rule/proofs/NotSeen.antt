@@ -9,12 +9,12 @@ use Rattle.bz_tree.specs.Tree.{Segment, Statement}
 use Rattle.bz_label.specs.Labels.{Package}
 use Rattle.bz_label.specs.declared.arguments.Attributes.TheVariants.{Named}
 use Rattle.bz_label.specs.declared.arguments.Commented.TheVariants.{Attribute, Rule as Above, Value}
-use Rattle.bz_label.specs.declared.arguments.Moved.{Moved}
+use Rattle.bz_label.specs.declared.arguments.Chosen.{Chosen}
 use Rattle.bz_label.specs.declared.arguments.Setting.TheVariants.{ToKind, ToValues}
 use Rattle.bz_attribute.specs.Rules.{first_named, is_named, value}
 use Rattle.bz_attribute.specs.Lists.{with_value}
 use Rattle.bz_attribute.specs.ListWalk.{edit_first_part}
-use Rattle.bz_attribute.specs.Effects.{argument, chooses, done, edit_first, filtered, is_chosen, list_item, not_a_list, slot_done, unchosen, with_args}
+use Rattle.bz_attribute.specs.Effects.{argument, chooses, done, edit_first, filtered, is_chosen, list_item, no_list_note, slot_done, unchosen, with_args}
 use Rattle.bz_attribute.specs.declared.done.Note.{Note}
 use Rattle.bz_attribute.specs.declared.done.Note.TheVariants.{AttributeExists, NoAttribute}
 use Rattle.bz_rule.specs.Move.{arrivals, elements_of, move_note, moves, put_in}
@@ -70,18 +70,18 @@ rename_unseen like names home old new h k =
     on_arguments (Rename old new) home (λ slot. refl) (λ slot. refl) (unless_noted note (first_left like names old h (λ a. rename_to new a ∷ []))) (overlooks_by note (λ n. done n true))
 
 -- what `move` sees: the two attributes
-record SeesBoth (like : List Segment → Segment → Type 0) (names : List (List ℕ)) (home : Package) (old new : List ℕ) (chosen : Moved) : Type 0 where
+record SeesBoth (like : List Segment → Segment → Type 0) (names : List (List ℕ)) (home : Package) (old new : List ℕ) (chosen : Chosen) : Type 0 where
   note : Overlooks like names (move_note old new)
   some : Overlooks like names (moves home old chosen)
   arriving : Overlooks like names (λ args. arrivals home (elements_of (first_named new args)) (filter (is_chosen home chosen) (elements_of (first_named old args))))
 
-sees_both : (like : List Segment → Segment → Type 0) (names : List (List ℕ)) (home : Package) (old new : List ℕ) (chosen : Moved) → is_one_of names old ≡ true → is_one_of names new ≡ true → SeesBoth like names home old new chosen
+sees_both : (like : List Segment → Segment → Type 0) (names : List (List ℕ)) (home : Package) (old new : List ℕ) (chosen : Chosen) → is_one_of names old ≡ true → is_one_of names new ≡ true → SeesBoth like names home old new chosen
 sees_both like names home old new chosen h k =
     let was = first_overlooks like names old h in
     let is = first_overlooks like names new k in
     let absent = overlooks_by (has_overlooks like names old h) (λ b. if b then None else Some (NoAttribute old)) in
     record {
-      note = record { seen = λ count xs ys are. λ i. option_or (absent.seen count xs ys are i) (option_or (not_a_list old (was.seen count xs ys are i)) (not_a_list new (is.seen count xs ys are i))) };
+      note = record { seen = λ count xs ys are. λ i. option_or (absent.seen count xs ys are i) (option_or (no_list_note old (was.seen count xs ys are i)) (no_list_note new (is.seen count xs ys are i))) };
       some = overlooks_by was (map_or false (chooses home chosen));
       arriving = record { seen = λ count xs ys are. λ i. arrivals home (elements_of (is.seen count xs ys are i)) (filter (is_chosen home chosen) (elements_of (was.seen count xs ys are i))) };
     }
@@ -90,7 +90,7 @@ put_leaves : (like : List Segment → Segment → Type 0) (names : List (List �
 put_leaves like names new k ss =
     either_left (has_overlooks like names new k) (first_left like names new k (λ a. with_value (edit_first_part (λ there. there ++ ss) (value a)) a ∷ [])) (more_left like names (argument new (list_item ss ∷ []) ∷ []))
 
-move_unseen : (like : List Segment → Segment → Type 0) (names : List (List ℕ)) (home : Package) (old new : List ℕ) (chosen : Moved) → is_one_of names old ≡ true → is_one_of names new ≡ true → NotSeen like names (Move old new chosen) home
+move_unseen : (like : List Segment → Segment → Type 0) (names : List (List ℕ)) (home : Package) (old new : List ℕ) (chosen : Chosen) → is_one_of names old ≡ true → is_one_of names new ≡ true → NotSeen like names (Move old new chosen) home
 move_unseen like names home old new chosen h k =
     let both = sees_both like names home old new chosen h k in
     let leave = first_left like names old h (filtered (unchosen home chosen)) in

@@ -4,13 +4,13 @@ use Rattle.std.specs.List.{list_all}
 use Rattle.bz_tree.specs.declared.tree.GroupKind.TheVariants.{Call, RuleCall, Load, Paren, List as ListKind, Index, Dict, ListComp, DictComp}
 use Rattle.bz_tree.specs.Tree.{Item, leaf, group, Segs, Segment, segs_of, segments}
 use Rattle.bz_attribute.specs.Rules.{elements}
-use Rattle.bz_attribute.specs.Lists.{edit_parts, is_joint, is_plus, parts}
+use Rattle.bz_attribute.specs.Lists.{edit_parts, may_be_in_sum, is_plus, parts}
 use Rattle.bz_attribute.specs.ListWalk.{is_list, edit_list, edit_from, edit_one_from, edit_first_part, ends, is_part, parts_from}
 use Rattle.bz_attribute.proofs.ListPieces.{edit_first_part_is, edit_parts_are, parts_are, walked_parts}
 use Rattle.bz_attribute.proofs.Views.{segments_of}
 use Rattle.bz_tree.proofs.Rows.FromParts.{segs_back}
 
-pub joint_edited : (f : List Segment → List Segment) (x : Item) → is_joint (edit_list f x) ≡ is_joint x
+pub joint_edited : (f : List Segment → List Segment) (x : Item) → may_be_in_sum (edit_list f x) ≡ may_be_in_sum x
 joint_edited f (leaf kind text) = refl
 joint_edited f (group kind segs one_comma end) = refl
 
@@ -47,11 +47,11 @@ ends_edited : (f : List Segment → List Segment) (start : Bool) (xs : List Item
 ends_edited f start [] = refl
 ends_edited f start (x ∷ xs) = elim (is_part start x xs) as (λ b. is_plus (if b then edit_list f x else x) ≡ is_plus x) [ true ↦ plus_edited f x | false ↦ refl ]
 
-joints_edited : (f : List Segment → List Segment) (start : Bool) (xs : List Item) → list_all is_joint (edit_from f start xs) ≡ list_all is_joint xs
+joints_edited : (f : List Segment → List Segment) (start : Bool) (xs : List Item) → list_all may_be_in_sum (edit_from f start xs) ≡ list_all may_be_in_sum xs
 joints_edited f start [] = refl
 joints_edited f start (x ∷ xs) =
-    let rest : list_all is_joint (edit_from f (is_plus x) xs) ≡ list_all is_joint xs = joints_edited f (is_plus x) xs in
-    elim (is_part start x xs) as (λ b. is_joint (if b then edit_list f x else x) && list_all is_joint (edit_from f (is_plus x) xs) ≡ is_joint x && list_all is_joint xs)
+    let rest : list_all may_be_in_sum (edit_from f (is_plus x) xs) ≡ list_all may_be_in_sum xs = joints_edited f (is_plus x) xs in
+    elim (is_part start x xs) as (λ b. may_be_in_sum (if b then edit_list f x else x) && list_all may_be_in_sum (edit_from f (is_plus x) xs) ≡ may_be_in_sum x && list_all may_be_in_sum xs)
     [ true ↦ rw (joint_edited f x, rest) refl | false ↦ rw rest refl ]
 
 parts_edited_from : (f : List Segment → List Segment) (start : Bool) (xs : List Item) → parts_from start (edit_from f start xs) ≡ map f (parts_from start xs)
@@ -72,8 +72,8 @@ parts_edited_from f start (x ∷ xs) =
 -- each list part edited: the lists are
 pub parts_edited : (f : List Segment → List Segment) (nodes : List Item) → parts (edit_parts f nodes) ≡ map f (parts nodes)
 parts_edited f nodes =
-    ap parts (edit_parts_are f nodes) ∙ parts_are (if list_all is_joint nodes then edit_from f true nodes else nodes)
-    ∙ elim (list_all is_joint nodes) as (λ b. list_all is_joint nodes ≡ b → walked_parts (if b then edit_from f true nodes else nodes) ≡ map f (if b then parts_from true nodes else []))
+    ap parts (edit_parts_are f nodes) ∙ parts_are (if list_all may_be_in_sum nodes then edit_from f true nodes else nodes)
+    ∙ elim (list_all may_be_in_sum nodes) as (λ b. list_all may_be_in_sum nodes ≡ b → walked_parts (if b then edit_from f true nodes else nodes) ≡ map f (if b then parts_from true nodes else []))
     [ true ↦ λ e. rw (joints_edited f true nodes, e) (parts_edited_from f true nodes) | false ↦ λ e. rw e refl ] refl
     ∙ ap (map f) (sym (parts_are nodes))
 
@@ -86,10 +86,10 @@ ends_one : (f : List Segment → List Segment) (start : Bool) (xs : List Item) �
 ends_one f start [] = refl
 ends_one f start (x ∷ xs) = elim (is_part start x xs) as (λ b. ends (if b then edit_list f x ∷ xs else x ∷ edit_one_from f (is_plus x) xs) ≡ is_plus x) [ true ↦ plus_edited f x | false ↦ refl ]
 
-joints_one : (f : List Segment → List Segment) (start : Bool) (xs : List Item) → list_all is_joint (edit_one_from f start xs) ≡ list_all is_joint xs
+joints_one : (f : List Segment → List Segment) (start : Bool) (xs : List Item) → list_all may_be_in_sum (edit_one_from f start xs) ≡ list_all may_be_in_sum xs
 joints_one f start [] = refl
 joints_one f start (x ∷ xs) =
-    elim (is_part start x xs) as (λ b. list_all is_joint (if b then edit_list f x ∷ xs else x ∷ edit_one_from f (is_plus x) xs) ≡ is_joint x && list_all is_joint xs)
+    elim (is_part start x xs) as (λ b. list_all may_be_in_sum (if b then edit_list f x ∷ xs else x ∷ edit_one_from f (is_plus x) xs) ≡ may_be_in_sum x && list_all may_be_in_sum xs)
     [ true ↦ rw (joint_edited f x) refl | false ↦ rw (joints_one f (is_plus x) xs) refl ]
 
 parts_one_from : (f : List Segment → List Segment) (start : Bool) (xs : List Item) → parts_from start (edit_one_from f start xs) ≡ edit_head f (parts_from start xs)
@@ -110,8 +110,8 @@ parts_one_from f start (x ∷ xs) =
 -- the first list part edited: the first list is
 pub parts_first_edited : (f : List Segment → List Segment) (nodes : List Item) → parts (edit_first_part f nodes) ≡ edit_head f (parts nodes)
 parts_first_edited f nodes =
-    ap parts (edit_first_part_is f nodes) ∙ parts_are (if list_all is_joint nodes then edit_one_from f true nodes else nodes)
-    ∙ elim (list_all is_joint nodes) as (λ b. list_all is_joint nodes ≡ b → walked_parts (if b then edit_one_from f true nodes else nodes) ≡ edit_head f (if b then parts_from true nodes else []))
+    ap parts (edit_first_part_is f nodes) ∙ parts_are (if list_all may_be_in_sum nodes then edit_one_from f true nodes else nodes)
+    ∙ elim (list_all may_be_in_sum nodes) as (λ b. list_all may_be_in_sum nodes ≡ b → walked_parts (if b then edit_one_from f true nodes else nodes) ≡ edit_head f (if b then parts_from true nodes else []))
     [ true ↦ λ e. rw (joints_one f true nodes, e) (parts_one_from f true nodes) | false ↦ λ e. rw e refl ] refl
     ∙ ap (edit_head f) (sym (parts_are nodes))
 
@@ -130,7 +130,7 @@ parts_stay_from f start (x ∷ xs) h =
 pub parts_stay : (f : List Segment → List Segment) (nodes : List Item) → map f (parts nodes) ≡ parts nodes → edit_parts f nodes ≡ nodes
 parts_stay f nodes h =
     edit_parts_are f nodes
-    ∙ elim (list_all is_joint nodes) as (λ b. map f (if b then parts_from true nodes else []) ≡ (if b then parts_from true nodes else []) → (if b then edit_from f true nodes else nodes) ≡ nodes)
+    ∙ elim (list_all may_be_in_sum nodes) as (λ b. map f (if b then parts_from true nodes else []) ≡ (if b then parts_from true nodes else []) → (if b then edit_from f true nodes else nodes) ≡ nodes)
     [ true ↦ λ k. parts_stay_from f true nodes k | false ↦ λ k. refl ] (subst (λ (lists : List (List Segment)). map f lists ≡ lists) (parts_are nodes) h)
 
 first_stays_from : (f : List Segment → List Segment) (start : Bool) (xs : List Item) → edit_head f (parts_from start xs) ≡ parts_from start xs → edit_one_from f start xs ≡ xs
@@ -145,5 +145,5 @@ first_stays_from f start (x ∷ xs) h =
 pub first_part_stays : (f : List Segment → List Segment) (nodes : List Item) → edit_head f (parts nodes) ≡ parts nodes → edit_first_part f nodes ≡ nodes
 first_part_stays f nodes h =
     edit_first_part_is f nodes
-    ∙ elim (list_all is_joint nodes) as (λ b. edit_head f (if b then parts_from true nodes else []) ≡ (if b then parts_from true nodes else []) → (if b then edit_one_from f true nodes else nodes) ≡ nodes)
+    ∙ elim (list_all may_be_in_sum nodes) as (λ b. edit_head f (if b then parts_from true nodes else []) ≡ (if b then parts_from true nodes else []) → (if b then edit_one_from f true nodes else nodes) ≡ nodes)
     [ true ↦ λ k. first_stays_from f true nodes k | false ↦ λ k. refl ] (subst (λ (lists : List (List Segment)). edit_head f lists ≡ lists) (parts_are nodes) h)

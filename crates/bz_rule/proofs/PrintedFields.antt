@@ -13,7 +13,7 @@ use Rattle.bz_attribute.specs.declared.head.Head.{Head}
 use Rattle.bz_attribute.specs.declared.done.Done.{Done}
 use Rattle.bz_attribute.specs.declared.done.Note.{Note}
 use Rattle.bz_attribute.specs.declared.done.Note.TheVariants.{Missing}
-use Rattle.bz_rule.specs.Print.{field_name, fields_of, line_of, list_text, prints, value_text, word_form, printed}
+use Rattle.bz_rule.specs.Print.{field_name, fields_of, line_of, other_text, prints, value_text, word_form, printed}
 use Rattle.bz_rule.specs.private.PrintSteps.{HasPrinted, IsRuleOf}
 use Rattle.bz_attribute.specs.Effects.{done}
 use Rattle.bz_token.specs.Common.{map_or}
@@ -55,7 +55,7 @@ named_value home attr head ps old new name named is written = record {
   where
     first : (o : Option Segment) → option_and_then (λ a. string_value (value a)) o ≡ Some name → option_map (λ (a : Segment). value_text (value a)) o ≡ Some (word_form name)
     first None e = absurd cc
-    first (Some a) e = ap (λ (v : Option (List ℕ)). Some (map_or (list_text (value a)) word_form v)) e
+    first (Some a) e = ap (λ (v : Option (List ℕ)). Some (map_or (other_text (value a)) word_form v)) e
 
     told : (s : Statement) (r : Rule) → IsRuleOf head ps s r → option_map (λ (a : Segment). value_text (value a)) (first_named attr r.args) ≡ Some (word_form name)
     told s r h =

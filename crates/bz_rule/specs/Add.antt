@@ -4,10 +4,10 @@ use Rattle.std.specs.Prelude.{ℕ, List, [], ◌∷◌, ◌++◌, Bool, true, �
 use Rattle.std.specs.List.{list_any}
 use Rattle.bz_tree.specs.Tree.{Segment}
 use Rattle.bz_label.specs.Labels.{Package}
-use Rattle.bz_label.specs.declared.arguments.Moved.TheVariants.{Values}
+use Rattle.bz_label.specs.declared.arguments.Chosen.TheVariants.{Values}
 use Rattle.bz_attribute.specs.Rules.{first_named, is_named, value}
 use Rattle.bz_attribute.specs.Lists.{with_value, parts, same}
-use Rattle.bz_attribute.specs.Effects.{has, edit_first, edit_part, is_chosen, string, list_item, argument, not_a_list}
+use Rattle.bz_attribute.specs.Effects.{has, edit_first, edit_part, is_chosen, string, list_item, argument, no_list_note}
 use Rattle.bz_rule.specs.Move.{arrivals, elements_of, put_in}
 use Rattle.bz_token.specs.Common.{is_empty, map_or}
 
@@ -15,7 +15,7 @@ use Rattle.bz_token.specs.Common.{is_empty, map_or}
 -- before them. Nothing is added where it notes why.
 abbrev pub add : Package → List ℕ → List (List ℕ) → List Segment → List Segment
 add home attr values args =
-    if is_some (not_a_list attr (first_named attr args)) then args
+    if is_some (no_list_note attr (first_named attr args)) then args
     else put_in attr (arrivals home (elements_of (first_named attr args)) (map string values)) args
 
 -- The same value by value, and whether it changes something.

@@ -10,8 +10,8 @@ use Rattle.std.specs.List.{list_all, list_any}
 use Rattle.std.specs.Str.{is_utf8}
 use Rattle.bz_label.specs.declared.arguments.Attributes.TheVariants.{Every, Named}
 use Rattle.bz_label.specs.declared.arguments.Setting.TheVariants.{ToKind, ToValues}
-use Rattle.bz_label.specs.declared.arguments.Moved.{Moved}
-use Rattle.bz_label.specs.declared.arguments.Moved.TheVariants.{All, Values}
+use Rattle.bz_label.specs.declared.arguments.Chosen.{Chosen}
+use Rattle.bz_label.specs.declared.arguments.Chosen.TheVariants.{All, Values}
 use Rattle.bz_label.specs.declared.arguments.Commented.{Commented}
 use Rattle.bz_label.specs.declared.arguments.Commented.TheVariants.{Rule as OfRule, Attribute, Value}
 use Rattle.bz_rule.specs.declared.command.Action.{Action}
@@ -23,7 +23,7 @@ use Rattle.bz_label.specs.Words.{words_of}
 use Rattle.bz_tree.specs.Tree.{Segment, Statement}
 use Rattle.bz_label.specs.Labels.{Package}
 use Rattle.bz_attribute.specs.Rules.{Rule, first_named, rule_of}
-use Rattle.bz_attribute.specs.Effects.{has, done, is_absent, not_a_list, with_args, slot_done, holds_rule}
+use Rattle.bz_attribute.specs.Effects.{has, done, absent_note, no_list_note, with_args, slot_done, holds_rule}
 use Rattle.bz_rule.specs.Add.{add, adds}
 use Rattle.bz_rule.specs.Remove.{remove, removes}
 use Rattle.bz_rule.specs.Rename.{rename, rename_note}
@@ -85,7 +85,7 @@ abbrev pub rename_of : List (List ℕ) → Result Command CommandFault
 rename_of (old ∷ new ∷ []) = if is_identifier old && is_identifier new then Ok (Rename old new) else Err BadAttribute
 rename_of _ = Err WrongCount
 
-abbrev pub moved_of : List (List ℕ) → Moved
+abbrev pub moved_of : List (List ℕ) → Chosen
 moved_of (value ∷ []) = if is_star value then All else Values (value ∷ [])
 moved_of values = Values values
 
@@ -192,10 +192,10 @@ args_after _ home args = args
 
 -- why a command on arguments does nothing to them
 abbrev pub args_note : Command → Package → List Segment → Option Note
-args_note (Add attr values) home args = not_a_list attr (first_named attr args)
+args_note (Add attr values) home args = no_list_note attr (first_named attr args)
 args_note (Rename old new) home args = rename_note old new args
 args_note (Move old new chosen) home args = move_note old new args
-args_note (Comment (Attribute attr) text) home args = is_absent attr args
+args_note (Comment (Attribute attr) text) home args = absent_note attr args
 args_note (Comment (Value attr value) text) home args = comment_note home attr value args
 args_note _ home args = None
 

@@ -8,7 +8,7 @@ use Rattle.bz_label.specs.declared.arguments.Commented.{Commented}
 use Rattle.bz_label.specs.declared.arguments.Commented.TheVariants.{Rule as OfRule, Attribute, Value}
 use Rattle.bz_attribute.specs.Rules.{rule_of, is_named, first_named, value}
 use Rattle.bz_attribute.specs.Lists.{with_value, parts, equals}
-use Rattle.bz_attribute.specs.Effects.{edit_first, is_absent, not_a_list, edit_part, with_comment}
+use Rattle.bz_attribute.specs.Effects.{edit_first, absent_note, no_list_note, edit_part, with_comment}
 use Rattle.bz_attribute.specs.declared.done.Note.{Note}
 use Rattle.bz_attribute.specs.declared.done.Note.TheVariants.{NoValue}
 use Rattle.bz_token.specs.Common.{map_or}
@@ -35,7 +35,8 @@ comment_rule text s = record s {
 
 -- `comment <attr> <text>`
 abbrev pub comment_attribute : List ℕ → List ℕ → List Segment → List Segment
-comment_attribute attr text args = edit_first (is_named attr) (λ a. with_comment (comment_line text) a ∷ []) args
+comment_attribute attr text args =
+    edit_first (is_named attr) (λ a. with_comment (comment_line text) a ∷ []) args
 
 -- an argument with the line above its first element of this value, in the first list part that has one
 abbrev pub comment_element : Package → List ℕ → List ℕ → Segment → Segment
@@ -44,14 +45,14 @@ comment_element home v text a =
     (edit_first (equals home v) (λ s. with_comment (comment_line text) s ∷ [])) (value a)) a
 
 -- the note where no element of a list part equals the value
-abbrev pub is_missing : Package → List ℕ → List ℕ → Option Segment → Option Note
-is_missing home attr v arg = option_and_then
+abbrev pub no_value_note : Package → List ℕ → List ℕ → Option Segment → Option Note
+no_value_note home attr v arg = option_and_then
     (λ a. if list_any (list_any (equals home v)) (parts (value a)) then None else Some (NoValue attr v)) arg
 
 -- why it does nothing: the attribute absent, without list part, without such an element: the first of these
 abbrev pub comment_note : Package → List ℕ → List ℕ → List Segment → Option Note
-comment_note home attr v args = option_or (is_absent attr args)
-    (option_or (not_a_list attr (first_named attr args)) (is_missing home attr v (first_named attr args)))
+comment_note home attr v args = option_or (absent_note attr args) (option_or
+    (no_list_note attr (first_named attr args)) (no_value_note home attr v (first_named attr args)))
 
 -- `comment <attr> <v> <text>`
 abbrev pub comment_value : Package → List ℕ → List ℕ → List ℕ → List Segment → List Segment

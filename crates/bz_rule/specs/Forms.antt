@@ -3,7 +3,7 @@
 use Rattle.std.specs.Prelude.{ℕ, List, [], ◌∷◌, Option, None, Some}
 use Rattle.bz_label.specs.declared.arguments.Attributes.TheVariants.{Named}
 use Rattle.bz_label.specs.declared.arguments.Commented.TheVariants.{Attribute, Value}
-use Rattle.bz_label.specs.declared.arguments.Moved.TheVariants as moved
+use Rattle.bz_label.specs.declared.arguments.Chosen.TheVariants as moved
 use Rattle.bz_label.specs.declared.arguments.Setting.TheVariants.{ToValues}
 use Rattle.bz_rule.specs.declared.command.Action.TheVariants.{Add, Remove, Set, SetIfAbsent, Move, Replace, Comment}
 use Rattle.bz_rule.specs.declared.forms.NewArgument.{NewArgument}

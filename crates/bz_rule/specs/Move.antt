@@ -5,18 +5,18 @@ use Rattle.std.specs.Prelude.{ℕ, List, [], ◌∷◌, ◌++◌, Bool, true, fa
 use Rattle.std.specs.List.{list_any, flat_map}
 use Rattle.bz_tree.specs.Tree.{Segment}
 use Rattle.bz_label.specs.Labels.{Package}
-use Rattle.bz_label.specs.declared.arguments.Moved.{Moved}
+use Rattle.bz_label.specs.declared.arguments.Chosen.{Chosen}
 use Rattle.bz_attribute.specs.Rules.{is_named, first_named, value, string_value}
 use Rattle.bz_attribute.specs.Lists.{with_value, parts, equals}
-use Rattle.bz_attribute.specs.Effects.{has, edit_first, edit_part, argument, list_item, filtered, unchosen, is_chosen, not_a_list, is_absent, chooses}
+use Rattle.bz_attribute.specs.Effects.{has, edit_first, edit_part, argument, list_item, filtered, unchosen, is_chosen, no_list_note, absent_note, chooses}
 use Rattle.bz_attribute.specs.declared.done.Note.{Note}
 use Rattle.bz_token.specs.Common.{is_empty, map_or}
 use Rattle.std.specs.Option.{option_or}
 
 -- why `move` does nothing: `old` absent, `old` without list part, `new` without list part: the first of these
 abbrev pub move_note : List ℕ → List ℕ → List Segment → Option Note
-move_note old new args = option_or (is_absent old args)
-    (option_or (not_a_list old (first_named old args)) (not_a_list new (first_named new args)))
+move_note old new args = option_or (absent_note old args)
+    (option_or (no_list_note old (first_named old args)) (no_list_note new (first_named new args)))
 
 -- the elements of all list parts, one after another
 abbrev pub elements_of : Option Segment → List Segment
@@ -39,7 +39,7 @@ put_in new ss args =
 
 -- `move <old> <new> <v>..`, `move <old> <new> *`: the chosen elements leave `old`, and each takes its comments
 -- with it. Nothing is moved where it notes why, nor where no element is chosen.
-abbrev pub move : Package → List ℕ → List ℕ → Moved → List Segment → List Segment
+abbrev pub move : Package → List ℕ → List ℕ → Chosen → List Segment → List Segment
 move home old new chosen args =
     let leaving = filter (is_chosen home chosen) (elements_of (first_named old args)) in
     if is_some (move_note old new args) || is_empty leaving then args
@@ -47,5 +47,5 @@ move home old new chosen args =
     (edit_first (is_named old) (filtered (unchosen home chosen)) args)
 
 -- whether it changes something, where it notes nothing
-abbrev pub moves : Package → List ℕ → Moved → List Segment → Bool
+abbrev pub moves : Package → List ℕ → Chosen → List Segment → Bool
 moves home old chosen args = map_or false (chooses home chosen) (first_named old args)

@@ -36,15 +36,15 @@ words_text ss =
 
 -- a value that is no string: one list of strings with values as words in brackets, anything else as its text
 -- on one line
-abbrev pub list_text : List Item → List ℕ
-list_text nodes =
+abbrev pub other_text : List Item → List ℕ
+other_text nodes =
     let flat = flat_text (Some RuleCall) nodes in
     map_or flat (λ ss. if list_all (λ s. is_some (string_value s.nodes)) ss then words_text ss else flat)
     (only_list nodes)
 
--- a value: a string as a word, anything else as `list_text` has it
+-- a value: a string as a word, anything else as `other_text` has it
 abbrev pub value_text : List Item → List ℕ
-value_text nodes = map_or (list_text nodes) word_form (string_value nodes)
+value_text nodes = map_or (other_text nodes) word_form (string_value nodes)
 
 -- the fields that are printed: without any, the name and the kind
 abbrev pub fields_of : List Field → List Field

@@ -27,7 +27,7 @@ use crate::commands::set::{set, set_if_absent};
 use crate::forms::Values;
 use crate::reader::{attribute, attributes, breaks_line, ensure, moved, next_word, read_place};
 use bz_attribute::{Done, Edit, Env, Parts};
-use bz_label::{Attributes, Commented, Moved, Seq, Setting, Text, is_kind};
+use bz_label::{Attributes, Chosen, Commented, Seq, Setting, Text, is_kind};
 use bz_memory::{NoMemory, push, with_room_for};
 use bz_tree::Part;
 use std::alloc::Global;
@@ -46,7 +46,7 @@ pub enum Action {
     /// From one name to another.
     Rename(Text, Text),
     /// From one attribute to another.
-    Move(Text, Text, Moved),
+    Move(Text, Text, Chosen),
     /// Attributes, a value, and the one that takes its place.
     Replace(Attributes, Text, Text),
     Comment(Commented, Text),
@@ -434,11 +434,11 @@ pub fn values_of(command: &Command) -> Values<'_>
         | Action::Remove(_, values)
         | Action::SetIfAbsent(_, values)
         | Action::Set(Setting::ToValues(_, values))
-        | Action::Move(_, _, Moved::Values(values)) => Values::Listed(values.as_slice()),
+        | Action::Move(_, _, Chosen::Values(values)) => Values::Listed(values.as_slice()),
         Action::Replace(_, old, new) => Values::Replaced(old.as_str(), new.as_str()),
         Action::Comment(Commented::Value(_, value), _) => Values::One(value.as_str()),
         Action::Set(Setting::ToKind(_))
-        | Action::Move(_, _, Moved::All)
+        | Action::Move(_, _, Chosen::All)
         | Action::Comment(Commented::Rule | Commented::Attribute(_), _)
         | Action::Delete
         | Action::Rename(_, _)

@@ -9,7 +9,7 @@ ghost use Rattle.bz_rule.specs.Commands as spec;
 ghost use Rattle.bz_rule.specs.private.CommandSteps.{commented_of};
 
 use crate::command::{Command, CommandFault, read_named};
-use bz_label::{Attributes, Commented, Moved, Seq, Text, read_words};
+use bz_label::{Attributes, Chosen, Commented, Seq, Text, read_words};
 use bz_token::is_identifier;
 use std::alloc::Global;
 
@@ -29,12 +29,12 @@ pub fn read_command(alloc: Global, text: &str) -> Result<Option<Command>, Comman
 }
 
 /// One star means all elements.
-pub(crate) fn moved(values: Seq<Text>) -> Moved
+pub(crate) fn moved(values: Seq<Text>) -> Chosen
     ensures { result ≡ spec.moved_of values }
 {
     match values.as_slice() {
-        [value] if value.as_str() == "*" => Moved::All,
-        _ => Moved::Values(values),
+        [value] if value.as_str() == "*" => Chosen::All,
+        _ => Chosen::Values(values),
     }
 }
 

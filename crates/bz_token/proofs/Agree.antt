@@ -19,7 +19,7 @@ use Rattle.bz_token.specs.declared.cutter.scan.CutState.{CutState}
 use Rattle.bz_token.specs.declared.cutter.scan.CutState.TheVariants.{Plain, Ended, Backslash, BackslashReturn, Comment, Opened, OpenedTwice, Short, ShortEscape, ShortEscapeReturn, Long, LongQuote, LongTwoQuotes, LongEscape}
 use Rattle.bz_token.specs.declared.cutter.scan.Scan.{Scan}
 use Rattle.bz_token.specs.private.CutSteps.{is_ended, byte_of, at, outside, in_short, in_long, next_in, next, start, run, with_comment}
-use Rattle.bz_token.specs.Strings.{is_quote, closing_row, are_two, opens_after, opening}
+use Rattle.bz_token.specs.Strings.{is_quote, quote_count, are_two, opens_after, opening}
 use Rattle.bz_token.specs.Lexical.{is_word_byte, is_newline, is_name, is_keyword, operators, is_operator_text, is_text, IsToken}
 use Rattle.bz_token.specs.private.Closing.{closes, opening_length}
 use Rattle.bz_token.specs.Brackets.{is_inside, is_line, is_opening_bracket, is_closing_bracket, fits, open_after_token}
@@ -536,7 +536,7 @@ pub data Found (q : Quote) (d : ℕ) (inside : List ℕ) (long : Bool) (s : Scan
   plainly : IsAt s Plain d → Found q d inside long s
   twice : IsAt s (OpenedTwice q) d → length inside ≡ 1 → long ≡ false → Found q d inside long s
 
-quoted_run : (q : Quote) (d : ℕ) (qs : List ℕ) (long : Bool) (s : Scan) → IsAt s (Opened q) d → are_two (byte_of q) qs ≡ long → closes (long_quotes q long) 0 Unescaped (drop (closing_row long - 1) qs) ≡ true → Found q d qs long (run s qs)
+quoted_run : (q : Quote) (d : ℕ) (qs : List ℕ) (long : Bool) (s : Scan) → IsAt s (Opened q) d → are_two (byte_of q) qs ≡ long → closes (long_quotes q long) 0 Unescaped (drop (quote_count long - 1) qs) ≡ true → Found q d qs long (run s qs)
 quoted_run q d [] true s h two closed = absurd (false≢true two)
 quoted_run q d (a ∷ []) true s h two closed = absurd (false≢true (sym (and_none (a == byte_of q)) ∙ two))
   where
@@ -666,8 +666,8 @@ string_token_run s opened b bs after token m =
     let quotes : o.quotes ≡ long_quotes q o.quotes.long = λ i. record { byte = quote.1 i; long = o.quotes.long } in
     let s1 = run s (parts.letters ++ byte_of q ∷ []) in
     let opened_at : IsAt s1 (Opened q) d = letters_run parts.letters q s d parts.words (λ c cs e. first c (parts.letters ++ byte_of q ∷ []) parts.inside (sym whole) cs e) in
-    let tail : drop (opening_length o) text ≡ drop (closing_row o.quotes.long - 1) parts.inside = ap (λ n. drop (n + closing_row o.quotes.long) text) parts.prefix ∙ ap (drop (length parts.letters + closing_row o.quotes.long)) parts.text_is ∙ drop-append-add parts.letters (o.quotes.byte ∷ parts.inside) (closing_row o.quotes.long) ∙ after_quote o.quotes.long o.quotes.byte parts.inside in
-    let closed : closes (long_quotes q o.quotes.long) 0 Unescaped (drop (closing_row o.quotes.long - 1) parts.inside) ≡ true = ap₂ (λ x y. closes x 0 Unescaped y) (sym quotes) (sym tail) ∙ found.2 in
+    let tail : drop (opening_length o) text ≡ drop (quote_count o.quotes.long - 1) parts.inside = ap (λ n. drop (n + quote_count o.quotes.long) text) parts.prefix ∙ ap (drop (length parts.letters + quote_count o.quotes.long)) parts.text_is ∙ drop-append-add parts.letters (o.quotes.byte ∷ parts.inside) (quote_count o.quotes.long) ∙ after_quote o.quotes.long o.quotes.byte parts.inside in
+    let closed : closes (long_quotes q o.quotes.long) 0 Unescaped (drop (quote_count o.quotes.long - 1) parts.inside) ≡ true = ap₂ (λ x y. closes x 0 Unescaped y) (sym quotes) (sym tail) ∙ found.2 in
     let end : Found q d parts.inside o.quotes.long (run s1 parts.inside) = quoted_run q d parts.inside o.quotes.long s1 opened_at (ap (λ x. are_two x parts.inside) (sym quote.1) ∙ parts.long) closed in
     let brackets = or_parts (is_opening_bracket b) (is_closing_bracket b) (text_no_bracket b bs token.whole) in
     same_depth (run s text) d _ String after (ap length (sym (open_same opened b bs brackets.0 brackets.1)))
@@ -692,7 +692,7 @@ string_token_run s opened b bs after token m =
         let same : b ≡ c = cc in
         (m.0, subst (λ x. next s x ≡ outside (length opened) m.0 x) same m.1)
 
-    after_quote : (long : Bool) (x : ℕ) (xs : List ℕ) → drop (closing_row long) (x ∷ xs) ≡ drop (closing_row long - 1) xs
+    after_quote : (long : Bool) (x : ℕ) (xs : List ℕ) → drop (quote_count long) (x ∷ xs) ≡ drop (quote_count long - 1) xs
     after_quote true x xs = refl
     after_quote false x xs = refl
 

@@ -13,7 +13,7 @@ use Rattle.bz_token.specs.declared.scan_string.Quotes.{Quotes}
 use Rattle.bz_token.specs.declared.scan_string.Escape.TheVariants.{Unescaped}
 use Rattle.bz_token.specs.declared.token.Kind.{Kind}
 use Rattle.bz_token.specs.declared.token.Kind.TheVariants.{Identifier, Keyword, Integer, String, Operator, Newline, Comment, Kept}
-use Rattle.bz_token.specs.Strings.{is_quote, is_string, closing_row, are_two, opening}
+use Rattle.bz_token.specs.Strings.{is_quote, is_string, quote_count, are_two, opening}
 use Rattle.bz_token.specs.Lexical.{is_word_byte, is_newline, operators, is_operator_text, is_keyword, is_name, ends_blank, are_based, is_octal_digit, is_number, is_comment, is_text, counts, is_number_kind, is_string_kind, IsToken, HasNoToken}
 use Rattle.bz_token.specs.private.Closing.{closes, opening_length, is_closed}
 use Rattle.bz_token.specs.Ends.{is_prefix, is_empty_string, stops, stops_at}
@@ -386,7 +386,7 @@ string_place text after o opens closed stop =
             ∙ sym whole.long ∙ three in
             let quotes : o.quotes ≡ record { byte = o.quotes.byte; long = false } = λ i. record { byte = o.quotes.byte; long = short i } in
             let short_closed : closes (record { byte = o.quotes.byte; long = false }) 0 Unescaped qs ≡ true =
-            sym (ap (λ x. closes x 0 Unescaped (drop (o.prefix + closing_row x.long) text)) quotes) ∙ closed in
+            sym (ap (λ x. closes x 0 Unescaped (drop (o.prefix + quote_count x.long) text)) quotes) ∙ closed in
             let third = third_quote o.quotes.byte qs after short_closed none two in
             let size : length text ≡ o.prefix + 2 = omega (arith, third.0, length-drop (o.prefix + 1) text, front.within) in
             absurd (never_third after third.1 short size stop)

@@ -11,7 +11,7 @@ use Rattle.bz_token.specs.declared.cutter.scan.LineKind.{LineKind}
 use Rattle.bz_token.specs.declared.cutter.scan.CutState.TheVariants.{Opened, OpenedTwice, Short, ShortEscape, ShortEscapeReturn, Long, LongQuote, LongEscape}
 use Rattle.bz_token.specs.declared.cutter.scan.Scan.{Scan}
 use Rattle.bz_token.specs.private.CutSteps.{is_ended, byte_of, at, outside, in_short, next_in, next, run}
-use Rattle.bz_token.specs.Strings.{closing_row, are_two, is_string, opening}
+use Rattle.bz_token.specs.Strings.{quote_count, are_two, is_string, opening}
 use Rattle.bz_token.specs.private.Closing.{closes, opening_length}
 use Rattle.bz_token.proofs.CutMachine.{run_append}
 use Rattle.bz_token.proofs.Openings.{opening_facts}
@@ -124,7 +124,7 @@ mutual
   ]
 
 -- after the opening quote
-quoted_within : (q : Quote) (d : ℕ) (qs : List ℕ) (m : ℕ) (more : List ℕ) (long : Bool) (s : Scan) → IsAt s (Opened q) d → are_two (byte_of q) qs ≡ long → closes (long_quotes q long) 0 Unescaped (drop (closing_row long - 1) (qs ++ m ∷ more)) ≡ true → is_ended (run s qs).inside ≡ true → ⊥
+quoted_within : (q : Quote) (d : ℕ) (qs : List ℕ) (m : ℕ) (more : List ℕ) (long : Bool) (s : Scan) → IsAt s (Opened q) d → are_two (byte_of q) qs ≡ long → closes (long_quotes q long) 0 Unescaped (drop (quote_count long - 1) (qs ++ m ∷ more)) ≡ true → is_ended (run s qs).inside ≡ true → ⊥
 quoted_within q d [] m more long s h two closed ended = not_ended s (Opened q) d h refl ended
 quoted_within q d (a ∷ []) m more true s h two closed ended = false≢true (sym (and_none (a == byte_of q)) ∙ two)
   where
@@ -162,19 +162,19 @@ string_within place o m more s d opens wide string first ended =
     let s1 = run s (parts.letters ++ byte_of q ∷ []) in
     let opened_at = letters_run parts.letters q s d parts.words (λ c cs e. first c (cs ++ parts.inside) (whole ∙ ap (λ x. x ++ parts.inside) e)) in
     let all : place ++ m ∷ more ≡ parts.letters ++ o.quotes.byte ∷ (parts.inside ++ m ∷ more) = ap (λ x. x ++ m ∷ more) parts.text_is ∙ append_assoc parts.letters (o.quotes.byte ∷ parts.inside) (m ∷ more) in
-    let tail : drop (opening_length o) (place ++ m ∷ more) ≡ drop (closing_row o.quotes.long - 1) (parts.inside ++ m ∷ more) =
-    ap (λ n. drop (n + closing_row o.quotes.long) (place ++ m ∷ more)) parts.prefix
-    ∙ ap (drop (length parts.letters + closing_row o.quotes.long)) all
-    ∙ drop-append-add parts.letters (o.quotes.byte ∷ (parts.inside ++ m ∷ more)) (closing_row o.quotes.long)
+    let tail : drop (opening_length o) (place ++ m ∷ more) ≡ drop (quote_count o.quotes.long - 1) (parts.inside ++ m ∷ more) =
+    ap (λ n. drop (n + quote_count o.quotes.long) (place ++ m ∷ more)) parts.prefix
+    ∙ ap (drop (length parts.letters + quote_count o.quotes.long)) all
+    ∙ drop-append-add parts.letters (o.quotes.byte ∷ (parts.inside ++ m ∷ more)) (quote_count o.quotes.long)
     ∙ after_quote o.quotes.long o.quotes.byte (parts.inside ++ m ∷ more) in
     let found = string_opens (place ++ m ∷ more) string in
     let same : found.0 ≡ o = some_same found.0 o (sym found.1 ∙ wide) in
     let shut : closes o.quotes 0 Unescaped (drop (opening_length o) (place ++ m ∷ more)) ≡ true = ap (λ x. closes x.quotes 0 Unescaped (drop (opening_length x) (place ++ m ∷ more))) (sym same) ∙ found.2 in
-    let closed : closes (long_quotes q o.quotes.long) 0 Unescaped (drop (closing_row o.quotes.long - 1) (parts.inside ++ m ∷ more)) ≡ true = ap₂ (λ x y. closes x 0 Unescaped y) (sym quotes) (sym tail) ∙ shut in
+    let closed : closes (long_quotes q o.quotes.long) 0 Unescaped (drop (quote_count o.quotes.long - 1) (parts.inside ++ m ∷ more)) ≡ true = ap₂ (λ x y. closes x 0 Unescaped y) (sym quotes) (sym tail) ∙ shut in
     quoted_within q d parts.inside m more o.quotes.long s1 opened_at (ap (λ x. are_two x parts.inside) (sym quote.1) ∙ parts.long) closed
     (ap (λ t. is_ended t.inside) (sym (ap (run s) whole ∙ run_append (parts.letters ++ byte_of q ∷ []) parts.inside s)) ∙ ended)
   where
-    after_quote : (long : Bool) (x : ℕ) (xs : List ℕ) → drop (closing_row long) (x ∷ xs) ≡ drop (closing_row long - 1) xs
+    after_quote : (long : Bool) (x : ℕ) (xs : List ℕ) → drop (quote_count long) (x ∷ xs) ≡ drop (quote_count long - 1) xs
     after_quote true x xs = refl
     after_quote false x xs = refl
 

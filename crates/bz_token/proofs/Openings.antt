@@ -11,7 +11,7 @@ use Rattle.bz_token.specs.declared.scan_string.Quotes.{Quotes}
 use Rattle.bz_token.specs.declared.scan_string.Escape.{Escape}
 use Rattle.bz_token.specs.declared.scan_string.Escape.TheVariants.{Unescaped}
 use Rattle.bz_token.specs.declared.token.Kind.TheVariants.{String}
-use Rattle.bz_token.specs.Strings.{is_quote, closing_row, are_two, opens_after, opening}
+use Rattle.bz_token.specs.Strings.{is_quote, quote_count, are_two, opens_after, opening}
 use Rattle.bz_token.specs.Lexical.{is_word_byte, is_newline}
 use Rattle.bz_token.specs.private.Closing.{is_escaped, escape_after, closes, prefix_letters, opening_length}
 use Rattle.bz_token.specs.Ends.{is_prefix}
@@ -208,7 +208,7 @@ closes_once q row e (x ∷ bs) more m a b =
     elim (cases_Bool (is_escaped e x)) [
       | inl escaped ↦ closes_once q 0 (escape_after e x) bs more m (rw (escaped, closes) at a) (rw (escaped, closes) at b)
       | inr plain ↦ elim (cases_Bool (x == q.byte)) [
-        | inl quoted ↦ elim (cases_Bool (row + 1 == closing_row q.long)) [
+        | inl quoted ↦ elim (cases_Bool (row + 1 == quote_count q.long)) [
           | inl closed ↦ never_empty bs more m (rw (plain, quoted, closed, closes) at b)
           | inr short ↦ closes_once q (row + 1) (escape_after e x) bs more m (rw (plain, quoted, short, closes) at a) (rw (plain, quoted, short, closes) at b)
         ]
@@ -226,7 +226,7 @@ closes_last q row e (x ∷ bs) h =
     elim (cases_Bool (is_escaped e x)) [
       | inl escaped ↦ let h' = rw (escaped, closes) at h in following bs 0 (escape_after e x) h' (closes_last q 0 (escape_after e x) bs h')
       | inr plain ↦ elim (cases_Bool (x == q.byte)) [
-        | inl quoted ↦ elim (cases_Bool (row + 1 == closing_row q.long)) [
+        | inl quoted ↦ elim (cases_Bool (row + 1 == quote_count q.long)) [
           | inl closed ↦ last bs (rw (plain, quoted, closed, closes) at h) quoted
           | inr short ↦ let h' = rw (plain, quoted, short, closes) at h in following bs (row + 1) (escape_after e x) h' (closes_last q (row + 1) (escape_after e x) bs h')
         ]
@@ -300,7 +300,7 @@ are_two-front q (a ∷ b ∷ qs) zero two h = absurd (omega arith)
 are_two-front q (a ∷ b ∷ qs) (suc zero) two h = absurd (omega arith)
 are_two-front q (a ∷ b ∷ qs) (suc (suc k)) two h = two
 
-are_two-take : (q : ℕ) (qs : List ℕ) (k : ℕ) → closing_row (are_two q qs) ≤ suc k → are_two q (take k qs) ≡ are_two q qs
+are_two-take : (q : ℕ) (qs : List ℕ) (k : ℕ) → quote_count (are_two q qs) ≤ suc k → are_two q (take k qs) ≡ are_two q qs
 are_two-take q qs k enough = elim (cases_Bool (are_two q qs)) [
   | inl two ↦ are_two-front q qs k two (omega (arith, rw two at enough)) ∙ sym two
   | inr none ↦ elim (cases_Bool (are_two q (take k qs))) [
@@ -309,11 +309,11 @@ are_two-take q qs k enough = elim (cases_Bool (are_two q qs)) [
   ]
 ]
 
-opens_front : (n : ℕ) (ys : List ℕ) (o : Opening) (m : ℕ) → opens_after n ys ≡ Some o → closing_row o.quotes.long ≤ m → opens_after n (take m ys) ≡ Some o
+opens_front : (n : ℕ) (ys : List ℕ) (o : Opening) (m : ℕ) → opens_after n ys ≡ Some o → quote_count o.quotes.long ≤ m → opens_after n (take m ys) ≡ Some o
 opens_front n [] o m h enough = absurd (none_some o h)
 opens_front n (q ∷ qs) o zero h enough = absurd (row_some o.quotes.long enough)
   where
-    row_some : (b : Bool) → closing_row b ≤ 0 → ⊥
+    row_some : (b : Bool) → quote_count b ≤ 0 → ⊥
     row_some true h = absurd (omega arith)
     row_some false h = absurd (omega arith)
 opens_front n (q ∷ qs) o (suc k) h enough =
@@ -321,7 +321,7 @@ opens_front n (q ∷ qs) o (suc k) h enough =
       | inr none ↦ absurd (none_some o (rw none at h))
       | inl is ↦
           let same : record { prefix = n; quotes = record { byte = q; long = are_two q qs } } ≡ o = some_same _ o (rw is at h) in
-          let fits : closing_row (are_two q qs) ≤ suc k = subst (λ x. closing_row x.quotes.long ≤ suc k) (sym same) enough in
+          let fits : quote_count (are_two q qs) ≤ suc k = subst (λ x. quote_count x.quotes.long ≤ suc k) (sym same) enough in
           rw (is, are_two-take q qs k fits) (ap (λ x. Some x) same)
     ]
   where
@@ -355,20 +355,20 @@ quote_no_newline q h = grind (arith, nat_tests)
 same_no_newline : (q b : ℕ) → is_newline q ≡ false → (b == q) ≡ true → is_newline b ≡ false
 same_no_newline q b h same = ap is_newline (eqb-true b q same) ∙ h
 
-quotes_line : (n : ℕ) (ys : List ℕ) (o : Opening) → opens_after n ys ≡ Some o → list_any is_newline (take (closing_row o.quotes.long) ys) ≡ false
+quotes_line : (n : ℕ) (ys : List ℕ) (o : Opening) → opens_after n ys ≡ Some o → list_any is_newline (take (quote_count o.quotes.long) ys) ≡ false
 quotes_line n [] o h = absurd (none_some o h)
 quotes_line n (q ∷ qs) o h =
     elim (cases_Bool (is_quote q)) [
       | inr none ↦ absurd (none_some o (rw none at h))
       | inl is ↦
           let same : record { prefix = n; quotes = record { byte = q; long = are_two q qs } } ≡ o = some_same _ o (rw is at h) in
-          subst (λ x. list_any is_newline (take (closing_row x.quotes.long) (q ∷ qs)) ≡ false) same (row qs (are_two q qs) refl (quote_no_newline q is))
+          subst (λ x. list_any is_newline (take (quote_count x.quotes.long) (q ∷ qs)) ≡ false) same (row qs (are_two q qs) refl (quote_no_newline q is))
     ]
   where
     some_same : (a b : Opening) → Some a ≡ Some b → a ≡ b
     some_same a b e = cc
 
-    row : (qs : List ℕ) (b : Bool) → are_two q qs ≡ b → is_newline q ≡ false → list_any is_newline (take (closing_row b) (q ∷ qs)) ≡ false
+    row : (qs : List ℕ) (b : Bool) → are_two q qs ≡ b → is_newline q ≡ false → list_any is_newline (take (quote_count b) (q ∷ qs)) ≡ false
     row qs false two first = rw first refl
     row [] true two first = absurd (false≢true two)
     row (x ∷ []) true two first = absurd (false≢true ((and_parts (x == q) false two).1))
@@ -381,16 +381,16 @@ quotes_line n (q ∷ qs) o h =
 letter_no_newline : (a c : ℕ) → (a == c) ≡ true → is_newline c ≡ false → is_newline a ≡ false
 letter_no_newline a c same h = ap is_newline (eqb-true a c same) ∙ h
 
-some_row : (b : Bool) → 0 < closing_row b
+some_row : (b : Bool) → 0 < quote_count b
 some_row true = omega arith
 some_row false = omega arith
 
-length_is : (n : ℕ) (ys : List ℕ) (o : Opening) → opens_after n ys ≡ Some o → opening_length o ≡ n + closing_row o.quotes.long
-length_is n ys o h = ap (λ x. x + closing_row o.quotes.long) (prefix_is n ys o h)
+length_is : (n : ℕ) (ys : List ℕ) (o : Opening) → opens_after n ys ≡ Some o → opening_length o ≡ n + quote_count o.quotes.long
+length_is n ys o h = ap (λ x. x + quote_count o.quotes.long) (prefix_is n ys o h)
 
 front_0 : (bytes : List ℕ) (o : Opening) → opens_after 0 bytes ≡ Some o → ((m : ℕ) → 0 < m → opening (take m bytes) ≡ opens_after 0 (take m bytes)) → OpensFront o bytes
 front_0 bytes o h same =
-    let size : opening_length o ≡ closing_row o.quotes.long = length_is 0 bytes o h ∙ omega arith in
+    let size : opening_length o ≡ quote_count o.quotes.long = length_is 0 bytes o h ∙ omega arith in
     record {
       front = λ m enough. same m (omega (arith, some_row o.quotes.long, size, enough)) ∙ opens_front 0 bytes o m h (omega (arith, size, enough));
       one_line = ap (λ n. list_any is_newline (take n bytes)) size ∙ quotes_line 0 bytes o h;
@@ -398,25 +398,25 @@ front_0 bytes o h same =
 
 front_1 : (a : ℕ) (bs : List ℕ) (o : Opening) → is_newline a ≡ false → opens_after 1 bs ≡ Some o → ((k : ℕ) → opening (a ∷ take k bs) ≡ opens_after 1 (take k bs)) → OpensFront o (a ∷ bs)
 front_1 a bs o plain h same =
-    let size : opening_length o ≡ 1 + closing_row o.quotes.long = length_is 1 bs o h in
+    let size : opening_length o ≡ 1 + quote_count o.quotes.long = length_is 1 bs o h in
     record {
       front = λ m enough. front m (omega (arith, size, enough));
       one_line = ap (λ n. list_any is_newline (take n (a ∷ bs))) size ∙ rw (one-add, plain) (quotes_line 1 bs o h);
     }
   where
-    front : (m : ℕ) → 1 + closing_row o.quotes.long ≤ m → opening (take m (a ∷ bs)) ≡ Some o
+    front : (m : ℕ) → 1 + quote_count o.quotes.long ≤ m → opening (take m (a ∷ bs)) ≡ Some o
     front zero enough = absurd (omega arith)
     front (suc k) enough = same k ∙ opens_front 1 bs o k h (omega arith)
 
 front_2 : (a c : ℕ) (cs : List ℕ) (o : Opening) → is_newline a ≡ false → is_newline c ≡ false → opens_after 2 cs ≡ Some o → ((k : ℕ) → opening (a ∷ c ∷ take k cs) ≡ opens_after 2 (take k cs)) → OpensFront o (a ∷ c ∷ cs)
 front_2 a c cs o plain plain2 h same =
-    let size : opening_length o ≡ suc (suc (closing_row o.quotes.long)) = length_is 2 cs o h ∙ omega arith in
+    let size : opening_length o ≡ suc (suc (quote_count o.quotes.long)) = length_is 2 cs o h ∙ omega arith in
     record {
       front = λ m enough. front m (omega (arith, size, enough));
       one_line = ap (λ n. list_any is_newline (take n (a ∷ c ∷ cs))) size ∙ rw (plain, plain2) (quotes_line 2 cs o h);
     }
   where
-    front : (m : ℕ) → 2 + closing_row o.quotes.long ≤ m → opening (take m (a ∷ c ∷ cs)) ≡ Some o
+    front : (m : ℕ) → 2 + quote_count o.quotes.long ≤ m → opening (take m (a ∷ c ∷ cs)) ≡ Some o
     front zero enough = absurd (omega arith)
     front (suc zero) enough = absurd (omega (arith, some_row o.quotes.long))
     front (suc (suc k)) enough = same k ∙ opens_front 2 cs o k h (omega arith)

@@ -10,7 +10,7 @@ use Rattle.bz_token.specs.declared.scan_string.Opening.{Opening}
 use Rattle.bz_token.specs.declared.scan_string.Escape.TheVariants.{Unescaped}
 use Rattle.bz_token.specs.declared.token.Kind.{Kind}
 use Rattle.bz_token.specs.declared.token.Kind.TheVariants.{Identifier, Keyword, Integer, String, Operator, Newline, Comment, Kept}
-use Rattle.bz_token.specs.Strings.{is_quote, closing_row, are_two, opens_after, opening}
+use Rattle.bz_token.specs.Strings.{is_quote, quote_count, are_two, opens_after, opening}
 use Rattle.bz_token.specs.Lexical.{is_word_byte, is_newline, is_one_of, operators, is_operator_text, keywords, is_keyword, is_name, is_comment, ends_blank, is_text, counts, is_string_kind, IsToken}
 use Rattle.bz_token.specs.private.Closing.{closes, opening_length}
 use Rattle.bz_token.specs.Ends.{is_prefix, is_empty_string, stops, stops_at, is_comment_kind, ends}
@@ -269,7 +269,7 @@ string_ends text (b ∷ bs) token =
           let size = eqb-true (length text) (o.prefix + 2) front.1 in
           let quotes : o.quotes ≡ record { byte = o.quotes.byte; long = false } = λ i. record { byte = o.quotes.byte; long = short i } in
           let closed' : closes (record { byte = o.quotes.byte; long = false }) 0 Unescaped (drop (o.prefix + 1) text) ≡ true =
-          sym (ap (λ x. closes x 0 Unescaped (drop (o.prefix + closing_row x.long) text)) quotes) ∙ closed in
+          sym (ap (λ x. closes x 0 Unescaped (drop (o.prefix + quote_count x.long) text)) quotes) ∙ closed in
           let more = opening_more text (b ∷ bs) o opens in
           let facts = opening_facts (text ++ b ∷ bs) more.more more.opens in
           let tail = drop-append-le (o.prefix + 1) text (b ∷ bs) (omega (arith, size)) in

@@ -10,7 +10,7 @@ use Rattle.bz_token.specs.declared.scan_string.Quotes.{Quotes}
 use Rattle.bz_token.specs.declared.scan_string.Escape.{Escape}
 use Rattle.bz_token.specs.declared.scan_string.Escape.TheVariants.{Unescaped, AfterBackslash, AfterReturn}
 use Rattle.bz_token.specs.private.Closing.{is_escaped, escape_after, closes}
-use Rattle.bz_token.specs.Strings.{closing_row}
+use Rattle.bz_token.specs.Strings.{quote_count}
 
 -- a longer front has a byte more
 pub longer_front : (bytes : List ℕ) (i n : ℕ) → i < n → i < length bytes → (more : List ℕ) × (take n bytes ≡ take i bytes ++ get_or bytes i 0 ∷ more)
@@ -41,11 +41,11 @@ broken_off q bytes i row e within newline plain other short rest shorter n =
 pub escaped_read : (q : Quotes) (row : ℕ) (e : Escape) (b : ℕ) (ys : List ℕ) → is_escaped e b ≡ true → closes q row e (b ∷ ys) ≡ closes q 0 (escape_after e b) ys
 escaped_read q row e b ys escaped = rw (escaped, closes) refl
 
-pub quote_read : (q : Quotes) (row : ℕ) (e : Escape) (b : ℕ) (ys : List ℕ) → is_escaped e b ≡ false → (b == q.byte) ≡ true → (row + 1 == closing_row q.long) ≡ false
+pub quote_read : (q : Quotes) (row : ℕ) (e : Escape) (b : ℕ) (ys : List ℕ) → is_escaped e b ≡ false → (b == q.byte) ≡ true → (row + 1 == quote_count q.long) ≡ false
     → closes q row e (b ∷ ys) ≡ closes q (row + 1) (escape_after e b) ys
 quote_read q row e b ys plain quote more = rw (plain, quote, more, closes) refl
 
-pub last_read : (q : Quotes) (row : ℕ) (e : Escape) (b : ℕ) → is_escaped e b ≡ false → (b == q.byte) ≡ true → (row + 1 == closing_row q.long) ≡ true → closes q row e (b ∷ []) ≡ true
+pub last_read : (q : Quotes) (row : ℕ) (e : Escape) (b : ℕ) → is_escaped e b ≡ false → (b == q.byte) ≡ true → (row + 1 == quote_count q.long) ≡ true → closes q row e (b ∷ []) ≡ true
 last_read q row e b plain quote last = rw (plain, quote, last, closes) refl
 
 pub other_read : (q : Quotes) (row : ℕ) (e : Escape) (b : ℕ) (ys : List ℕ) → is_escaped e b ≡ false → (b == q.byte) ≡ false → (q.long || not (b == 10)) ≡ true

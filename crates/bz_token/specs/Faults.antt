@@ -10,17 +10,20 @@ use Rattle.bz_token.specs.Places.{Placed, line_at, column_at}
 use Rattle.bz_token.specs.Common.{begins, first_of, map_or}
 use Rattle.bz_token.specs.Strings.{opening}
 
--- What is wrong where no token fits, by what stands there. At the end of the text it is the innermost bracket that is open. Else a
--- string has no end, letters and digits are no number, a backslash continues no line, a closing bracket does not match the
--- innermost open one, an opening one is too deep, or no token begins with the byte.
+-- What is wrong where no token fits, by what stands there. At the end of the text it is the innermost bracket
+-- that is open. Else a string has no end, letters and digits are no number, a backslash continues no line, a
+-- closing bracket does not match the innermost open one, an opening one is too deep, or no token begins with
+-- the byte.
 abbrev pub fault_at : List ℕ → List Placed → ℕ → ℕ → Option LexFault
-fault_at [] opened line col = map_or None (λ bracket. Some (OpenBracket bracket.line bracket.col)) (first_of opened)
+fault_at [] opened line col =
+    map_or None (λ bracket. Some (OpenBracket bracket.line bracket.col)) (first_of opened)
 fault_at place opened line col =
     if is_some (opening place) then Some (OpenText line col)
     else (if begins is_ascii_digit place then Some (BadNumber line col)
     else (if begins (λ b. b == 92) place then Some (BadBackslash line col)
     else (if begins is_closing_bracket place then Some (BadBracket line col)
-    else (if begins is_opening_bracket place then Some (TooDeep line col) else Some (BadCharacter line col)))))
+    else (if begins is_opening_bracket place then Some (TooDeep line col)
+    else Some (BadCharacter line col)))))
 
 -- The first fault of the text from left to right: where no further piece can be read, after the gap there.
 pub record IsFirstFault (first depth : ℕ) (bytes : List ℕ) (fault : LexFault) : Type 0 where
@@ -28,11 +31,12 @@ pub record IsFirstFault (first depth : ℕ) (bytes : List ℕ) (fault : LexFault
   pub gap : List ℕ
   pub place : List ℕ
   pub reading : IsReading depth [] pieces (gap ++ place) bytes
-  pub stuck : (piece : Piece) (after : List ℕ) → IsPiece depth (open_after [] pieces) piece (gap ++ place) after → ⊥
+  pub stuck : (piece : Piece) (after : List ℕ)
+      → IsPiece depth (open_after [] pieces) piece (gap ++ place) after → ⊥
   pub is_gap : is_gap (is_inside (open_after [] pieces)) gap ≡ true
   pub after_gap : begins_gap (is_inside (open_after [] pieces)) place ≡ false
-  pub is : fault_at place (open_tokens [] (tokens_of first [] [] pieces)) (line_at first (bytes_of pieces ++ gap))
-      (column_at (bytes_of pieces ++ gap)) ≡ Some fault
+  pub is : fault_at place (open_tokens [] (tokens_of first [] [] pieces))
+      (line_at first (bytes_of pieces ++ gap)) (column_at (bytes_of pieces ++ gap)) ≡ Some fault
 
 -- The same of what the code answers: that memory was refused says nothing of the text, so it holds of each.
 abbrev pub IsFault : ℕ → ℕ → List ℕ → LexFault → Type 0

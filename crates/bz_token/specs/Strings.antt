@@ -42,9 +42,9 @@ opening place =
     then opens_after (length prefix) (drop (length prefix) place) else None
 
 -- so many quotes in a row close a string
-abbrev pub closing_row : Bool → ℕ
-closing_row false = 1
-closing_row true = 3
+abbrev pub quote_count : Bool → ℕ
+quote_count false = 1
+quote_count true = 3
 
 -- Whether an escape takes one more byte along: a backslash takes the byte after it, or a carriage return and
 -- a newline (92, 13 and 10).
@@ -57,13 +57,13 @@ units bytes = grouped escape_takes bytes
 
 -- the units after the opening quotes
 abbrev pub inside : Opening → List ℕ → List (List ℕ)
-inside o text = units (drop (o.prefix + closing_row o.quotes.long) text)
+inside o text = units (drop (o.prefix + quote_count o.quotes.long) text)
 
 -- closing quotes stand among these units
 abbrev pub has_closing : Quotes → List (List ℕ) → Bool
 has_closing quotes [] = false
 has_closing quotes (u ∷ us) =
-    starts_with bytes_eq (u ∷ us) (replicate (closing_row quotes.long) (quotes.byte ∷ []))
+    starts_with bytes_eq (u ∷ us) (replicate (quote_count quotes.long) (quotes.byte ∷ []))
     || has_closing quotes us
 
 -- a newline breaks off a string in one quote

@@ -5,8 +5,9 @@ use Rattle.bz_token.specs.Places.{Placed}
 use Rattle.bz_token.specs.Reading.{tokens_of, AreTokensOf}
 use Rattle.bz_token.specs.Faults.{IsFirstFault}
 
--- These are the tokens of the whole text, and it has no fault; or this is its first fault, and these are the tokens before.
--- An open bracket is told at the end of a text that has no other fault, so all its tokens stand before that fault.
+-- These are the tokens of the whole text, and it has no fault; or this is its first fault, and these are the
+-- tokens before. An open bracket is told at the end of a text that has no other fault, so all its tokens stand
+-- before it.
 abbrev pub IsReadAs : ℕ → ℕ → List ℕ → List Placed → Option LexFault → Type 0
 IsReadAs first depth bytes tokens None = AreTokensOf first depth bytes tokens
 IsReadAs first depth bytes tokens (Some fault) =

@@ -2,7 +2,7 @@
 
 ghost use Rattle.std.specs.Prelude.{◌≡◌, ◌≤◌, ◌<◌, ◌-◌, ℕ, Some, true, false, length, take, slice_index, IfSome, IfNone};
 ghost use Rattle.std.specs.List.{list_any};
-ghost use Rattle.bz_token.specs.Strings.{is_quote, closing_row, are_two, opening};
+ghost use Rattle.bz_token.specs.Strings.{is_quote, quote_count, are_two, opening};
 ghost use Rattle.bz_token.specs.Lexical.{is_newline};
 ghost use Rattle.bz_token.specs.private.Closing.{is_escaped, escape_after, closes, prefix_letters};
 ghost use Rattle.bz_token.specs.declared.scan_string.Escape.TheVariants.{Unescaped};
@@ -70,8 +70,8 @@ fn escape_after(escape: Escape, b: u8) -> Escape
 }
 
 #[inline(always)]
-pub fn closing_row(long: bool) -> usize
-    ensures { result ≡ closing_row long }
+pub fn quote_count(long: bool) -> usize
+    ensures { result ≡ quote_count long }
 {
     if long { 3 } else { 1 }
 }
@@ -168,7 +168,7 @@ fn inside_by_bytes(quotes: Quotes, bytes: &[u8]) -> Option<StringBody>
             row = 0;
         } else if *b == quotes.byte {
             row += 1;
-            if row == closing_row(quotes.long) {
+            if row == quote_count(quotes.long) {
                 return Some(StringBody {
                     len: i + 1,
                     has_newline,

@@ -17,7 +17,7 @@ ghost use Rattle.bz_token.specs.Strings.{opening};
 use crate::gap::{TokenGap, blanks, continued, newline};
 use crate::lengths::integer_len;
 use crate::scan::{is_keyword, line_comment_len, operator_len};
-use crate::scan_string::{Opening, closing_row, inside_at, opening_at, quoted_at};
+use crate::scan_string::{Opening, inside_at, opening_at, quote_count, quoted_at};
 use crate::table::{ByteClass, class_at, is_word_byte};
 use crate::token::Kind;
 use crate::word::word_len;
@@ -67,7 +67,7 @@ pub fn string_at(opened: Opening, bytes: &[u8]) -> Option<Scanned>
     ensures string { IfSome result (λ string. IsScanned bytes.now string × (string.kind ≡ String)) }
     ensures none { IfNone result (IsOpenText bytes.now) }
 {
-    let start = opened.prefix + closing_row(opened.quotes.long);
+    let start = opened.prefix + quote_count(opened.quotes.long);
     let Some(body) = inside_at(opened.quotes, &bytes[start..]) else {
         return None;
     };

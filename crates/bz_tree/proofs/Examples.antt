@@ -10,7 +10,7 @@ use Rattle.bz_tree.specs.declared.tree.Class.TheVariants.{Comment, Other}
 use Rattle.bz_tree.specs.declared.tree.GroupKind.TheVariants.{Call}
 use Rattle.bz_tree.specs.Tree.{Item, leaf, group, is_rule, no_items, item, no_segs, seg, Statement}
 use Rattle.bz_tree.specs.Brackets.{leaf_of}
-use Rattle.bz_tree.specs.Owners.{node, comma, comment, inside, no_empty}
+use Rattle.bz_tree.specs.Owners.{node, comma, comment, inside, no_empty_cell}
 use Rattle.bz_tree.specs.Statement.{class_of, start_of}
 use Rattle.bz_tree.specs.Blocks.{above, block_indent, ends_open, has_header_colon, is_block, logical_lines}
 use Rattle.bz_tree.specs.Chunk.{indent_fault}
@@ -76,7 +76,7 @@ no_segment : inside (comment 1 a ∷ comment 2 b ∷ []) ≡ record { segs = [];
 no_segment = refl
 
 -- no segment is empty
-two_commas : no_empty (node 1 (leaf_of x) ∷ comma (at Operator (codes ",") 1 2) ∷ comma (at Operator (codes ",") 1 3) ∷ []) ≡ false
+two_commas : no_empty_cell (node 1 (leaf_of x) ∷ comma (at Operator (codes ",") 1 2) ∷ comma (at Operator (codes ",") 1 3) ∷ []) ≡ false
 two_commas = refl
 
 -- `x = 1` and a comment

@@ -16,14 +16,14 @@ use Rattle.bz_tree.specs.declared.tree.kinds.Preceding.{Preceding}
 use Rattle.bz_tree.specs.declared.tree.kinds.Preceding.TheVariants.{Other}
 use Rattle.bz_tree.specs.Tree.{Item, leaf, group, segs_of}
 use Rattle.bz_tree.specs.Kinds.{mark_of, after_item, group_kind, is_one}
-use Rattle.bz_tree.specs.Owners.{Own, node, comma, comment, Inside, nodes_of, is_comma, inside, no_empty}
+use Rattle.bz_tree.specs.Owners.{Inner, node, comma, comment, Inside, nodes_of, is_comma, inside, no_empty_cell}
 
 -- the leaf of a token
 abbrev pub leaf_of : Placed → Item
 leaf_of t = leaf t.kind t.text
 
 -- what stands directly before a bracket that comes next, after one more thing; a comment changes nothing
-abbrev pub preceding : Preceding → Own → Preceding
+abbrev pub preceding : Preceding → Inner → Preceding
 preceding before (node line x) = after_item x
 preceding before (comma t) = Other
 preceding before (comment line text) = before
@@ -34,16 +34,16 @@ is_for_item (leaf Keyword text) = bytes_eq text (codes "for")
 is_for_item _ = false
 
 -- the keyword `for` stands before the first comma
-abbrev pub has_for : List Own → Bool
+abbrev pub has_for : List Inner → Bool
 has_for owns = list_any is_for_item (flat_map nodes_of (before_first is_comma owns))
 
 -- a comma as a node; anything else as it is
-abbrev pub as_node : Own → Own
+abbrev pub as_node : Inner → Inner
 as_node (comma t) = node t.line (leaf_of t)
 as_node x = x
 
 -- what stands in a bracket, its commas as nodes where it has one segment
-abbrev pub own_items : Bool → List Own → List Own
+abbrev pub own_items : Bool → List Inner → List Inner
 own_items one owns = map (λ own. if one then as_node own else own) owns
 
 -- parentheses that are neither a call nor a `load`
@@ -56,7 +56,7 @@ abbrev pub group_with : GroupKind → Inside → Item
 group_with kind i = group kind (segs_of i.segs) (is_paren kind && (length i.segs == 1) && i.trailing) i.end
 
 -- the bracket of a kind in which these stand
-abbrev pub group_of : GroupKind → List Own → Item
+abbrev pub group_of : GroupKind → List Inner → Item
 group_of kind owns = group_with kind (inside (own_items (is_one kind) owns))
 
 -- the line on which a token ends
@@ -64,7 +64,7 @@ abbrev pub end_line : Placed → ℕ
 end_line t = t.line + count_by (λ b. b == 10) t.text
 
 -- a token that stands alone; none: a bracket or a newline
-abbrev pub alone : Mark → Placed → Option Own
+abbrev pub alone : Mark → Placed → Option Inner
 alone Comma t = Some (comma t)
 alone Comment t = Some (comment t.line t.text)
 alone Plain t = Some (node (end_line t) (leaf_of t))
@@ -72,24 +72,24 @@ alone _ t = None
 
 -- Two brackets of one shape, with this between them and `b` directly before, are this node. No segment is
 -- empty.
-pub record IsGroup (b : Preceding) (opening : Placed) (owns : List Own) (closing : Placed)
-    (own : Own) : Type 0 where
+pub record IsGroup (b : Preceding) (opening : Placed) (owns : List Inner) (closing : Placed)
+    (own : Inner) : Type 0 where
   pub shape : Shape
   pub kind : GroupKind
   pub opens : mark_of opening ≡ Open shape
   pub closes : mark_of closing ≡ Close shape
   pub kind_is : kind ≡ group_kind shape b (has_for owns)
-  pub some : no_empty (own_items (is_one kind) owns) ≡ true
+  pub some : no_empty_cell (own_items (is_one kind) owns) ≡ true
   pub is : own ≡ node closing.line (group_of kind owns)
 
 -- The tokens, by their brackets, are these in order, where `b` stands directly before them.
-pub data AreNested : Preceding → List Placed → List Own → Type 0 where
+pub data AreNested : Preceding → List Placed → List Inner → Type 0 where
   no_token : {b : Preceding} → AreNested b [] []
-  single : {b : Preceding} {t : Placed} {ts : List Placed} {own : Own} {owns : List Own}
+  single : {b : Preceding} {t : Placed} {ts : List Placed} {own : Inner} {owns : List Inner}
       → alone (mark_of t) t ≡ Some own → AreNested (preceding b own) ts owns
       → AreNested b (t ∷ ts) (own ∷ owns)
   bracket : {b : Preceding} {opening closing : Placed} {inner ts : List Placed}
-      {inside owns : List Own} {own : Own}
+      {inside owns : List Inner} {own : Inner}
       → AreNested Other inner inside → IsGroup b opening inside closing own
       → AreNested (preceding b own) ts owns → AreNested b (opening ∷ inner ++ closing ∷ ts) (own ∷ owns)
 

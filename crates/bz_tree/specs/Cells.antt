@@ -2,7 +2,7 @@
 -- and both are the same. For the laws on what is read back.
 use Rattle.std.specs.Prelude.{ℕ, List, [], ◌∷◌, ◌++◌, Bool, true, false, not, if◌then◌else◌, ◌==◌, ◌&&◌, drop}
 use Rattle.bz_tree.specs.Tree.{Item, Segment}
-use Rattle.bz_tree.specs.Owners.{Own, node, comma, comment, Inside}
+use Rattle.bz_tree.specs.Owners.{Inner, node, comma, comment, Inside}
 use Rattle.bz_token.specs.Common.{first_of, is_filled}
 
 -- What stands directly before a comment: nothing or a comment, or a node or a comma that ends on a line. A comment ends its line, so
@@ -122,19 +122,19 @@ inside_by_cells es = record {
 }
 
 -- the entries of what stands in a bracket, after what ends on this line
-abbrev pub entries_of : Last → List Own → List Entry
+abbrev pub entries_of : Last → List Inner → List Entry
 entries_of last [] = []
 entries_of last (node line x ∷ os) = a_node x ∷ entries_of (end_of_node line) os
 entries_of last (comma t ∷ os) = a_comma ∷ entries_of (end_of_comma t.line) os
 entries_of last (comment line text ∷ os) = a_comment (is_on last line) text ∷ entries_of no_token os
 
 -- no segment is empty: a node stands before each comma, after the comma before
-abbrev pub no_empty : Bool → List Own → Bool
-no_empty has_node [] = true
-no_empty has_node (node line x ∷ rest) = no_empty true rest
-no_empty has_node (comma t ∷ rest) = has_node && no_empty false rest
-no_empty has_node (comment line text ∷ rest) = no_empty has_node rest
+abbrev pub no_empty_cell : Bool → List Inner → Bool
+no_empty_cell has_node [] = true
+no_empty_cell has_node (node line x ∷ rest) = no_empty_cell true rest
+no_empty_cell has_node (comma t ∷ rest) = has_node && no_empty_cell false rest
+no_empty_cell has_node (comment line text ∷ rest) = no_empty_cell has_node rest
 
 -- the same as `inside` of `Owners`
-abbrev pub inside : List Own → Inside
+abbrev pub inside : List Inner → Inside
 inside owns = inside_by_cells (entries_of no_token owns)

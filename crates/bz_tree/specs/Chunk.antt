@@ -18,16 +18,18 @@ pub record IsPlain (tokens : List Placed) (s : Statement) : Type 0 where
   pub tree : IsStatementOf tokens s
   pub grammar : IsStatement (items_of s.nodes)
 
+-- the same, where this is the first token
 abbrev pub indent_at : Option Placed → List Placed → Option ℕ
 indent_at None tokens = None
 indent_at (Some t) tokens =
     if t.col == 1 then (if is_block_word t then block_indent tokens else None) else Some t.line
 
--- The line at which the chunk is indented wrongly: its first token stands in column 1, and the lines of a block on columns that
--- fit. Comment lines may be indented.
+-- The line at which the chunk is indented wrongly: its first token stands in column 1, and the lines of a block
+-- on columns that fit. Comment lines may be indented.
 abbrev pub indent_fault : List Placed → Option ℕ
 indent_fault tokens = indent_at (first_token tokens) tokens
 
+-- the statement of such a chunk: a block, or a statement that is none
 abbrev pub IsOneOf : Bool → ℕ → List ℕ → List Placed → Statement → Type 0
 IsOneOf true first bytes tokens s = IsBlockOf first bytes tokens s
 IsOneOf false first bytes tokens s = IsPlain tokens s
@@ -73,8 +75,8 @@ pub record HasTokenFault (first depth : ℕ) (bytes : List ℕ) (fault : ParseFa
   pub are : AreTokensOf first depth bytes tokens
   pub is : IsTokenFault first bytes tokens fault
 
--- The first fault of a chunk: lexical faults come before wrong indents, and these before the grammar. That memory was refused says
--- nothing of the chunk, so it holds of each; `IsAnswerOf` (bz_engine `File`) leaves it out.
+-- The first fault of a chunk: lexical faults come before wrong indents, and these before the grammar. That memory
+-- was refused says nothing of the chunk, so it holds of each; `IsAnswerOf` (bz_engine `File`) leaves it out.
 abbrev pub IsFaultIn : ℕ → ℕ → List ℕ → ParseFault → Type 0
 IsFaultIn first depth bytes (OutOfMemory _) = Unit {0}
 IsFaultIn first depth bytes (Lex fault) = IsFirstFault first depth bytes fault

@@ -10,8 +10,8 @@ use Rattle.bz_tree.specs.declared.tree.kinds.Preceding.TheVariants.{Other}
 use Rattle.bz_tree.specs.declared.tree.GroupKind.{GroupKind}
 use Rattle.bz_tree.specs.Tree.{Item, leaf, group, Segment, Statement, is_rule}
 use Rattle.bz_tree.specs.Kinds.{mark_of, group_kind, is_one}
-use Rattle.bz_tree.specs.Owners.{Own, node, comma, comment, Inside}
-use Rattle.bz_tree.specs.Cells.{inside, no_empty}
+use Rattle.bz_tree.specs.Owners.{Inner, node, comma, comment, Inside}
+use Rattle.bz_tree.specs.Cells.{inside, no_empty_cell}
 use Rattle.bz_tree.specs.Brackets.{leaf_of, end_line, preceding, is_for_item, own_items, group_with, without_lines}
 use Rattle.bz_tree.specs.Statement.{as_rule_call, statement_with}
 
@@ -36,18 +36,18 @@ abbrev mutual
   elems_tokens (elem x xs) = elem_tokens x ++ elems_tokens xs
 
 -- `has_for` of `Brackets`, as a walk
-abbrev pub has_for : List Own → Bool
+abbrev pub has_for : List Inner → Bool
 has_for [] = false
 has_for (node line x ∷ xs) = is_for_item x || has_for xs
 has_for (comma t ∷ xs) = false
 has_for (comment line text ∷ xs) = has_for xs
 
-abbrev pub own_of : Mark → Placed → Own
+abbrev pub own_of : Mark → Placed → Inner
 own_of Comma t = comma t
 own_of Comment t = comment t.line t.text
 own_of _ t = node (end_line t) (leaf_of t)
 
-abbrev pub group_of : GroupKind → List Own → Item
+abbrev pub group_of : GroupKind → List Inner → Item
 group_of kind owns = group_with kind (inside (own_items (is_one kind) owns))
 
 -- At depth 0 a statement is one segment, and every comment but the suffix stands before it.
@@ -71,18 +71,18 @@ with_rule_call s = record {
 abbrev pub segment_with : Inside → Segment
 segment_with i = with_rule_call (one_segment i.segs i.end)
 
-abbrev pub segment_of : List Own → Segment
+abbrev pub segment_of : List Inner → Segment
 segment_of owns = segment_with (inside (own_items true owns))
 
 -- what stands in a bracket, after `b`
 abbrev mutual
-  pub elem_own : Preceding → Elem → Own
+  pub elem_own : Preceding → Elem → Inner
   elem_own b (single t) = own_of (mark_of t) t
   elem_own b (bracket shape opening inner closing) =
       let owns = elems_own Other inner in
       node closing.line (group_of (group_kind shape b (has_for owns)) owns)
 
-  pub elems_own : Preceding → Elems → List Own
+  pub elems_own : Preceding → Elems → List Inner
   elems_own b no_elems = []
   elems_own b (elem x xs) = let own = elem_own b x in own ∷ elems_own (preceding b own) xs
 
@@ -99,7 +99,7 @@ abbrev mutual
   IsWell b (single t) = is_single (mark_of t) ≡ true
   IsWell b (bracket shape opening inner closing) =
       (mark_of opening ≡ Open shape) × (mark_of closing ≡ Close shape) × AreWell Other inner
-      × (let owns = elems_own Other inner in no_empty false (own_items (is_one (group_kind shape b (has_for owns))) owns) ≡ true)
+      × (let owns = elems_own Other inner in no_empty_cell false (own_items (is_one (group_kind shape b (has_for owns))) owns) ≡ true)
 
   pub AreWell : Preceding → Elems → Type 0
   AreWell b no_elems = Unit {0}

@@ -1,4 +1,4 @@
--- The grammar of a statement's nodes: its rows as a table, and what it is to have the form of a row. The rows
+-- The grammar of a statement's nodes: its productions as a table, and what it is to have their form. These
 -- are those of the Starlark specification ("Grammar reference") for one statement outside blocks, without
 -- `lambda`, floats, `;`, `pass`, `break`, `continue` and `return`. Nothing is evaluated, so precedence is
 -- left out: a Binary is Unaries with any binary operators between them. Own to this project: an index is one
@@ -17,27 +17,27 @@ use Rattle.bz_token.specs.Lexical.{is_one_of}
 -- `f then g or h` is `(f then g) or h`
 infixr 30 ◌then◌
 infixr 20 ◌or◌
--- The rows. In the specification `Binary`, `Unary` and `Primary` are BinaryExpr, UnaryExpr and PrimaryExpr,
--- and `Clauses` are CompClauses. `Suffix` and `Bracketed` are DotSuffix, CallSuffix and SliceSuffix,
--- `Subscript` what stands in a SliceSuffix.
-pub data Row : Type 0 where
-  Statement : Row
-  LoadArgument : Row
-  Expression : Row
-  Test : Row
-  Binary : Row
-  Unary : Row
-  Primary : Row
-  Operand : Row
-  Suffix : Row
-  Bracketed : Row
-  Argument : Row
-  Entry : Row
-  Clauses : Row
-  For : Row
-  Subscript : Row
+-- The nonterminals. In the specification `Binary`, `Unary` and `Primary` are BinaryExpr, UnaryExpr and
+-- PrimaryExpr, and `Clauses` are CompClauses. `Suffix` and `Bracketed` are DotSuffix, CallSuffix and
+-- SliceSuffix, `Subscript` what stands in a SliceSuffix.
+pub data Nonterminal : Type 0 where
+  Statement : Nonterminal
+  LoadArgument : Nonterminal
+  Expression : Nonterminal
+  Test : Nonterminal
+  Binary : Nonterminal
+  Unary : Nonterminal
+  Primary : Nonterminal
+  Operand : Nonterminal
+  Suffix : Nonterminal
+  Bracketed : Nonterminal
+  Argument : Nonterminal
+  Entry : Nonterminal
+  Clauses : Nonterminal
+  For : Nonterminal
+  Subscript : Nonterminal
 
--- What a row asks for.
+-- What a production asks for.
 pub data Form : Type 0 where
   nothing : Form
   -- a token of this kind, and one that has one of these texts
@@ -46,8 +46,8 @@ pub data Form : Type 0 where
   -- a bracket, by the form of its segments; a segment, by that of its nodes
   bracket : GroupKind → Form → Form
   segment : Form → Form
-  -- what this row asks for
-  row : Row → Form
+  -- what the production of this nonterminal asks for
+  the : Nonterminal → Form
   -- one after the other, and one of both
   ◌then◌ : Form → Form → Form
   ◌or◌ : Form → Form → Form
@@ -67,8 +67,8 @@ abbrev pub maybe : Form → Form
 maybe f = nothing or f
 
 -- the segments of a bracket stand between its commas
-abbrev pub each_segment : Row → Form
-each_segment r = many (segment (row r))
+abbrev pub each_segment : Nonterminal → Form
+each_segment r = many (segment (the r))
 
 -- the prefix operators
 abbrev pub prefix : Form
@@ -98,37 +98,38 @@ star = one_of Operator (codes "*" ∷ codes "**" ∷ [])
 abbrev pub assignment : Form
 assignment = one_of Operator (codes "=" ∷ augmented)
 
--- The table: what each row asks for. (A rule of the grammar, not of a BUILD file.)
-abbrev pub rule : Row → Form
-rule Statement =
-    nothing or row Expression or row Expression then assignment then row Expression
+-- The table: the production of each nonterminal.
+abbrev pub production : Nonterminal → Form
+production Statement =
+    nothing or the Expression or the Expression then assignment then the Expression
     or word (codes "load") then bracket Load (segment (any String) then each_segment LoadArgument)
-rule LoadArgument = maybe (any Identifier then sign (codes "=")) then any String
-rule Expression = row Test then many (sign (codes ",") then row Test)
-rule Test = row Binary then maybe (word (codes "if") then row Binary then word (codes "else") then row Test)
-rule Binary = row Unary then many (binary then row Unary)
-rule Unary = many prefix then row Primary
+production LoadArgument = maybe (any Identifier then sign (codes "=")) then any String
+production Expression = the Test then many (sign (codes ",") then the Test)
+production Test =
+    the Binary then maybe (word (codes "if") then the Binary then word (codes "else") then the Test)
+production Binary = the Unary then many (binary then the Unary)
+production Unary = many prefix then the Primary
 -- an integer takes no `.` directly after it
-rule Primary =
-    row Operand then many (row Suffix) or any Integer then maybe (row Bracketed then many (row Suffix))
-rule Operand =
+production Primary =
+    the Operand then many (the Suffix) or any Integer then maybe (the Bracketed then many (the Suffix))
+production Operand =
     any Identifier or any String or bracket Paren (each_segment Test) or bracket ListKind (each_segment Test)
-    or bracket Dict (each_segment Entry) or bracket ListComp (segment (row Test then row Clauses))
-    or bracket DictComp (segment (row Entry then row Clauses))
-rule Suffix = sign (codes ".") then any Identifier or row Bracketed
-rule Bracketed =
+    or bracket Dict (each_segment Entry) or bracket ListComp (segment (the Test then the Clauses))
+    or bracket DictComp (segment (the Entry then the Clauses))
+production Suffix = sign (codes ".") then any Identifier or the Bracketed
+production Bracketed =
     bracket Call (each_segment Argument) or bracket RuleCall (each_segment Argument)
-    or bracket Index (segment (row Subscript))
-rule Argument =
-    row Test or any Identifier then sign (codes "=") then row Test or star then row Test
-rule Entry = row Test then sign (codes ":") then row Test
-rule Clauses = row For then many (row For or word (codes "if") then row Binary)
-rule For =
-    word (codes "for") then row Primary then many (sign (codes ",") then row Primary)
-    then word (codes "in") then row Binary
-rule Subscript =
-    row Test or maybe (row Test) then sign (codes ":") then maybe (row Test)
-    then maybe (sign (codes ":") then maybe (row Test))
+    or bracket Index (segment (the Subscript))
+production Argument =
+    the Test or any Identifier then sign (codes "=") then the Test or star then the Test
+production Entry = the Test then sign (codes ":") then the Test
+production Clauses = the For then many (the For or word (codes "if") then the Binary)
+production For =
+    word (codes "for") then the Primary then many (sign (codes ",") then the Primary)
+    then word (codes "in") then the Binary
+production Subscript =
+    the Test or maybe (the Test) then sign (codes ":") then maybe (the Test)
+    then maybe (sign (codes ":") then maybe (the Test))
 
 -- What a form is asked of is a list of parts: nodes of a segment, or segments of a bracket.
 pub data Part : Type 0 where
@@ -154,18 +155,18 @@ pub data Has : Form → List Part → Type 0 where
   in_bracket : {k : GroupKind} {f : Form} {segs : Segs} {one_comma : Bool} {end : List (List ℕ)}
       → Has f (contents segs) → Has (bracket k f) (node (group k segs one_comma end) ∷ [])
   in_segment : {f : Form} {xs : Items} → Has f (nodes xs) → Has (segment f) (between_commas xs ∷ [])
-  by_rule : {r : Row} {ps : List Part} → Has (rule r) ps → Has (row r) ps
-  both : {f g : Form} {ps qs : List Part} → Has f ps → Has g qs → Has (f then g) (ps ++ qs)
+  by_production : {r : Nonterminal} {ps : List Part} → Has (production r) ps → Has (the r) ps
+  in_turn : {f g : Form} {ps qs : List Part} → Has f ps → Has g qs → Has (f then g) (ps ++ qs)
   -- the form before an `or`, and the one after it
-  this : {f g : Form} {ps : List Part} → Has f ps → Has (f or g) ps
-  that : {f g : Form} {ps : List Part} → Has g ps → Has (f or g) ps
+  or_left : {f g : Form} {ps : List Part} → Has f ps → Has (f or g) ps
+  or_right : {f g : Form} {ps : List Part} → Has g ps → Has (f or g) ps
   no_more : {f : Form} → Has (many f) []
   again : {f : Form} {ps qs : List Part} → Has f ps → Has (many f) qs → Has (many f) (ps ++ qs)
 
--- the nodes are of this row
-abbrev pub Is : Row → Items → Type 0
-Is r xs = Has (row r) (nodes xs)
+-- the nodes are derived from this nonterminal
+abbrev pub AreOf : Nonterminal → Items → Type 0
+AreOf r xs = Has (the r) (nodes xs)
 
 -- the nodes are a statement of the grammar
 abbrev pub IsStatement : Items → Type 0
-IsStatement xs = Is Statement xs
+IsStatement xs = AreOf Statement xs

@@ -7,15 +7,15 @@ use Rattle.std.specs.List.{list_any, list_all, filter, last_or, before_last, aft
 use Rattle.bz_token.specs.Places.{Placed}
 use Rattle.bz_token.specs.Groups.{grouped}
 use Rattle.bz_tree.specs.Tree.{Item, Segment}
-use Rattle.bz_token.specs.Common.{first_of}
+use Rattle.bz_token.specs.Common.{first_of, is_filled}
 
--- one of the things that stand in a bracket, without those of inner ones
-pub data Own : Type 0 where
+-- one of the things that stand in a bracket, and in no bracket within it
+pub data Inner : Type 0 where
   -- a token or an inner bracket, and the line on which it ends
-  node : ℕ → Item → Own
-  comma : Placed → Own
+  node : ℕ → Item → Inner
+  comma : Placed → Inner
   -- a comment: its line and its text
-  comment : ℕ → List ℕ → Own
+  comment : ℕ → List ℕ → Inner
 
 -- the segments of a bracket, whether a comma stands after its last node, its end comments
 pub record Inside : Type 0 where
@@ -24,62 +24,62 @@ pub record Inside : Type 0 where
   pub end : List (List ℕ)
 
 -- the node that this is, as a list; else none
-abbrev pub nodes_of : Own → List Item
+abbrev pub nodes_of : Inner → List Item
 nodes_of (node line x) = x ∷ []
 nodes_of _ = []
 
 -- the text of the comment that this is, as a list; else none
-abbrev pub texts_of : Own → List (List ℕ)
+abbrev pub texts_of : Inner → List (List ℕ)
 texts_of (comment line text) = text ∷ []
 texts_of _ = []
 
 -- a token or an inner bracket
-abbrev pub is_node : Own → Bool
-is_node (node line x) = true
-is_node _ = false
+abbrev pub is_node : Inner → Bool
+is_node inner = is_filled (nodes_of inner)
 
 -- a comma
-abbrev pub is_comma : Own → Bool
+abbrev pub is_comma : Inner → Bool
 is_comma (comma t) = true
 is_comma _ = false
 
 -- a comment on the line on which the node or comma directly before it ends
-abbrev pub is_beside : Option Own → Own → Bool
+abbrev pub is_beside : Option Inner → Inner → Bool
 is_beside (Some (node end x)) (comment line text) = end == line
 is_beside (Some (comma t)) (comment line text) = t.line == line
 is_beside _ _ = false
 
 -- the texts of such comments, where `before` stands before all
-abbrev pub beside : Option Own → List Own → List (List ℕ)
+abbrev pub beside : Option Inner → List Inner → List (List ℕ)
 beside before [] = []
-beside before (own ∷ owns) = (if is_beside before own then texts_of own else []) ++ beside (Some own) owns
+beside before (inner ∷ inners) =
+    (if is_beside before inner then texts_of inner else []) ++ beside (Some inner) inners
 
 -- the texts of the other comments
-abbrev pub on_own_lines : Option Own → List Own → List (List ℕ)
+abbrev pub on_own_lines : Option Inner → List Inner → List (List ℕ)
 on_own_lines before [] = []
-on_own_lines before (own ∷ owns) =
-    (if is_beside before own then [] else texts_of own) ++ on_own_lines (Some own) owns
+on_own_lines before (inner ∷ inners) =
+    (if is_beside before inner then [] else texts_of inner) ++ on_own_lines (Some inner) inners
 
 -- A bracket is cut into cells: what stands up to a comma, the comma, and the comment beside it. The last cell
 -- has no comma, if more stands after the last one.
-abbrev pub cell_goes_on : List Own → Own → Bool
-cell_goes_on cell own = not (list_any is_comma cell) || is_beside (last_or None cell) own
+abbrev pub cell_goes_on : List Inner → Inner → Bool
+cell_goes_on cell inner = not (list_any is_comma cell) || is_beside (last_or None cell) inner
 
 -- the cells of a bracket
-abbrev pub cells : List Own → List (List Own)
-cells owns = grouped cell_goes_on owns
+abbrev pub cells : List Inner → List (List Inner)
+cells inners = grouped cell_goes_on inners
 
 -- a cell from its last node on
-abbrev pub from_last_node : List Own → List Own
+abbrev pub from_last_node : List Inner → List Inner
 from_last_node cell = drop (length (before_last is_node cell)) cell
 
 -- the end comments of the last cell without a comma: those on lines of their own after its last node
-abbrev pub end_comments : List Own → List (List ℕ)
+abbrev pub end_comments : List Inner → List (List ℕ)
 end_comments cell = if list_any is_comma cell then [] else on_own_lines None (from_last_node cell)
 
 -- The segment of a cell. The first comment beside its last node or its comma is the suffix; its other
 -- comments that are no end comments stand before the segment.
-abbrev pub cell_segment : List Own → Segment
+abbrev pub cell_segment : List Inner → Segment
 cell_segment cell =
     let last = from_last_node cell in
     let below = if list_any is_comma cell then on_own_lines None last else [] in
@@ -90,13 +90,13 @@ cell_segment cell =
     }
 
 -- no segment is empty: a node stands before each comma, after the comma before
-abbrev pub no_empty : List Own → Bool
-no_empty owns = list_all (λ cell. list_any is_node cell || not (list_any is_comma cell)) (cells owns)
+abbrev pub no_empty_cell : List Inner → Bool
+no_empty_cell inners = list_all (λ cell. list_any is_node cell || not (list_any is_comma cell)) (cells inners)
 
 -- the inside of a bracket: each cell with a node is a segment
-abbrev pub inside : List Own → Inside
-inside owns = record {
-  segs = map cell_segment (filter (list_any is_node) (cells owns));
-  trailing = list_any is_comma (after_last is_node owns);
-  end = flat_map end_comments (cells owns);
+abbrev pub inside : List Inner → Inside
+inside inners = record {
+  segs = map cell_segment (filter (list_any is_node) (cells inners));
+  trailing = list_any is_comma (after_last is_node inners);
+  end = flat_map end_comments (cells inners);
 }

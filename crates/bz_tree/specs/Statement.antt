@@ -11,7 +11,7 @@ use Rattle.bz_tree.specs.declared.tree.Class.{Class}
 use Rattle.bz_tree.specs.declared.tree.Class.TheVariants.{Load, Assign, Rule, Other, Comment, Block}
 use Rattle.bz_tree.specs.declared.tree.kinds.Preceding.TheVariants.{Other as OtherPreceding}
 use Rattle.bz_tree.specs.Tree.{Item, leaf, group, Segment, Statement, is_rule}
-use Rattle.bz_tree.specs.Owners.{Own, end_comments, cell_segment}
+use Rattle.bz_tree.specs.Owners.{Inner, end_comments, cell_segment}
 use Rattle.bz_tree.specs.Brackets.{AreNested, own_items, end_line, without_lines}
 use Rattle.bz_token.specs.Common.{first_of, map_or}
 use Rattle.bz_token.specs.Lexical.{is_one_of}
@@ -25,7 +25,7 @@ as_rule_call (group kind segs one_comma end) = group RuleCall segs one_comma end
 
 -- The nodes and comments of a statement, of what stands in it outside brackets: this is one cell, in which a
 -- comma is a node; its end comments stand before it too. The call of a rule is a `RuleCall`.
-abbrev pub segment_of : List Own → Segment
+abbrev pub segment_of : List Inner → Segment
 segment_of owns =
     let cell = own_items true owns in
     let s = cell_segment cell in
@@ -114,7 +114,7 @@ statement_with tokens s = record {
 
 -- The statement of the tokens, by their brackets, its comments with their owners.
 pub record IsStatementOf (tokens : List Placed) (s : Statement) : Type 0 where
-  pub owns : List Own
+  pub owns : List Inner
   pub nested : AreNested OtherPreceding (without_lines tokens) owns
   pub is : s ≡ statement_with tokens (segment_of owns)
 

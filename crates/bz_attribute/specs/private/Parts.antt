@@ -88,9 +88,9 @@ flat_name _ = None
 abbrev pub ItemEnds : List RowPart → ℕ → ℕ → Type 0
 ItemEnds ps at end = (x : Item) (xs : List Item) (after : List RowPart) → drop at ps ≡ value_parts (x ∷ xs) after → end ≡ at + length (item_parts x)
 
-abbrev pub is_joint : RowPart → Bool
-is_joint (a_token kind text) = lists.is_joint (leaf kind text)
-is_joint _ = true
+abbrev pub may_be_in_sum : RowPart → Bool
+may_be_in_sum (a_token kind text) = lists.may_be_in_sum (leaf kind text)
+may_be_in_sum _ = true
 
 abbrev pub is_plus : RowPart → Bool
 is_plus (a_token kind text) = lists.is_plus (leaf kind text)

@@ -24,7 +24,7 @@ pub record IsDone (run : Run) (cs : List (List ℕ)) (statements : List Statemen
   pub shown : List ℕ
   pub appended : text_following ≡ text_before ++ shown
   pub text : text_after run.home run.passes (statements ++ more) ≡ text_after run.home run.passes statements ++ shown
-  pub calm : run.keep_going ≡ false → old.failed ≡ false → new.failed ≡ false
+  pub none_fails : run.keep_going ≡ false → old.failed ≡ false → new.failed ≡ false
 
 -- The chunk has a fault, and nothing was done.
 pub record IsFaulty (max_depth : ℕ) (chunk : List ℕ) (fault : SyntaxFault) (old new : Progress) (text_before text_following : List ℕ) : Type 0 where
@@ -70,7 +70,7 @@ pub record IsLaidOut (run : Run) (s : Statement) (old new : Progress) (before af
   pub last : new.last ≡ last_class old.last (slot_after (meaning run.home) run.passes (Some s) ∷ [])
   pub line : new.line ≡ old.line
   pub text : after ≡ before ++ (if is_query run.passes then [] else text_following old.last (slot_after (meaning run.home) run.passes (Some s) ∷ []))
-  pub calm : run.keep_going ≡ false → old.failed ≡ false → new.failed ≡ false
+  pub none_fails : run.keep_going ≡ false → old.failed ≡ false → new.failed ≡ false
 
 -- or the run ends at it.
 pub record IsEnded (run : Run) (s : Statement) (message : Option (List ℕ)) (old new : Progress) (before after : List ℕ) : Type 0 where

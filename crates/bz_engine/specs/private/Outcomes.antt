@@ -12,7 +12,7 @@ pub record IsWholeRun (run : Run) (file text : List ℕ) (told : Told) : Type 0 
   pub statements : List Statement
   pub fault : Option SyntaxFault
   pub read : IsFile run.max_depth file statements fault
-  pub calm : run.keep_going ≡ false → some_failure run.home run.passes statements ≡ false
+  pub none_fails : run.keep_going ≡ false → some_failure run.home run.passes statements ≡ false
   pub text_is : text ≡ text_after run.home run.passes statements
   pub changed : (told.changed ≡ true) ↔ Changes (meaning run.home) run.passes (slots_of statements)
   pub told_is : told ≡ told_of run.home run.passes statements fault told.changed
@@ -23,7 +23,7 @@ pub record EndsAtFailure (run : Run) (file text : List ℕ) (told : Told) : Type
   pub before : List Statement
   pub statement : Statement
   pub read : BeginsWith run.max_depth file (before ++ statement ∷ [])
-  pub calm : some_failure run.home run.passes before ≡ false
+  pub none_fails : some_failure run.home run.passes before ≡ false
   pub fails : some_failure run.home run.passes (statement ∷ []) ≡ true
   pub text_is : text ≡ text_after run.home run.passes before
   pub changed : (told.changed ≡ true) ↔ Changes (meaning run.home) run.passes (slots_of before)

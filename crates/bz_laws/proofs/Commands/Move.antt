@@ -5,7 +5,7 @@ use Rattle.bz_tree.specs.Tree.{Segment}
 use Rattle.bz_label.specs.Labels.{Package}
 use Rattle.bz_label.specs.Arguments.{is_moved}
 use Rattle.bz_rule.specs.Commands.{is_command}
-use Rattle.bz_label.specs.declared.arguments.Moved.{Moved}
+use Rattle.bz_label.specs.declared.arguments.Chosen.{Chosen}
 use Rattle.bz_rule.specs.declared.command.Action.TheVariants.{Move}
 use Rattle.bz_attribute.specs.Rules.{first_named, is_named, value, string_value}
 use Rattle.bz_attribute.specs.Lists.{with_value, is_attribute, parts, equals}
@@ -42,7 +42,7 @@ put_in_kept g names new ss leaves args =
     let put : Segment → Segment = λ a. with_value (edit_first_part (λ there. there ++ ss) (value a)) a in
     taken (map g) (has_kept g names new args) (edit_one_kept g names new leaves put (λ a named. put_kept g new leaves _ a named) args) (append_kept g new leaves _ args)
 
-moved_kept : (g : Segment → Segment) → KeepsEach g → (home : Package) (old new : List ℕ) (chosen : Moved) → Leaves old g → Leaves new g → (args : List Segment)
+moved_kept : (g : Segment → Segment) → KeepsEach g → (home : Package) (old new : List ℕ) (chosen : Chosen) → Leaves old g → Leaves new g → (args : List Segment)
     → moved home old new chosen (map g args) ≡ map g (moved home old new chosen args)
 moved_kept g names home old new chosen leaves_old leaves_new args =
     let ss : List Segment = arrivals home (elements_of (first_named new args)) (filter (is_chosen home chosen) (elements_of (first_named old args))) in
@@ -50,13 +50,13 @@ moved_kept g names home old new chosen leaves_old leaves_new args =
     let emptied : left (map g args) ≡ map g (left args) = edit_kept g names old leaves_old (filtered (unchosen home chosen)) (filtered_kept g (unchosen home chosen) old leaves_old) args in
     rw (first_kept g names new leaves_new args, first_kept g names old leaves_old args) (ap (put_in new ss) emptied ∙ put_in_kept g names new ss leaves_new (left args))
 
-moves_kept : (g : Segment → Segment) → KeepsEach g → (home : Package) (old : List ℕ) (chosen : Moved) → Leaves old g → (args : List Segment) → moves home old chosen (map g args) ≡ moves home old chosen args
+moves_kept : (g : Segment → Segment) → KeepsEach g → (home : Package) (old : List ℕ) (chosen : Chosen) → Leaves old g → (args : List Segment) → moves home old chosen (map g args) ≡ moves home old chosen args
 moves_kept g names home old chosen leaves args = rw (first_kept g names old leaves args) refl
 
 note_move : (g : Segment → Segment) → KeepsEach g → (old new : List ℕ) → Leaves old g → Leaves new g → (args : List Segment) → move_note old new (map g args) ≡ move_note old new args
 note_move g names old new leaves_old leaves_new args = rw (has_kept g names old args, first_kept g names old leaves_old args, first_kept g names new leaves_new args) refl
 
-move_aside : (g : Segment → Segment) → KeepsEach g → (home : Package) (old new : List ℕ) (chosen : Moved) → Leaves old g → Leaves new g → (args : List Segment)
+move_aside : (g : Segment → Segment) → KeepsEach g → (home : Package) (old new : List ℕ) (chosen : Chosen) → Leaves old g → Leaves new g → (args : List Segment)
     → move home old new chosen (map g args) ≡ map g (move home old new chosen args)
 move_aside g names home old new chosen leaves_old leaves_new args =
     move_is home old new chosen (map g args)
@@ -79,7 +79,7 @@ elements_formed depth attr (a ∷ args) h =
       | false ↦ λ e. elements_formed depth attr args h.1
     ] refl
 
-chosen_formed : (depth : ℕ) (home : Package) (old : List ℕ) (chosen : Moved) (args : List Segment) → AreFormed IsArg (suc depth) args → AreFormed IsTest depth (filter (is_chosen home chosen) (elements_of (first_named old args)))
+chosen_formed : (depth : ℕ) (home : Package) (old : List ℕ) (chosen : Chosen) (args : List Segment) → AreFormed IsArg (suc depth) args → AreFormed IsTest depth (filter (is_chosen home chosen) (elements_of (first_named old args)))
 chosen_formed depth home old chosen args h = all_filtered (IsFormed IsTest depth) (is_chosen home chosen) (elements_of (first_named old args)) (elements_formed depth old args h)
 
 arrivals_formed : (depth : ℕ) (home : Package) (there ss : List Segment) → AreFormed IsTest depth ss → AreFormed IsTest depth (arrivals home there ss)
@@ -98,7 +98,7 @@ put_in_formed depth new ss args name k h =
         good_with (suc depth) (edit_first_part (λ there. there ++ ss) (value a)) a n good
         (edited_first_part_good depth (λ there. there ++ ss) (appended_good depth ss k) (value a) (good_value (suc depth) a n good))
 
-moved_formed : (depth : ℕ) (home : Package) (old new : List ℕ) (chosen : Moved) (args : List Segment) → is_text Identifier new ≡ true → AreFormed IsArg (suc depth) args → AreFormed IsArg (suc depth) (moved home old new chosen args)
+moved_formed : (depth : ℕ) (home : Package) (old new : List ℕ) (chosen : Chosen) (args : List Segment) → is_text Identifier new ≡ true → AreFormed IsArg (suc depth) args → AreFormed IsArg (suc depth) (moved home old new chosen args)
 moved_formed depth home old new chosen args name h =
     let there : List Segment = elements_of (first_named new args) in
     let leaving : List Segment = filter (is_chosen home chosen) (elements_of (first_named old args)) in
@@ -106,7 +106,7 @@ moved_formed depth home old new chosen args name h =
     (arrivals_formed depth home there leaving (chosen_formed depth home old chosen args h))
     (first_good (suc depth) old (filtered (unchosen home chosen)) (filtered_good depth home chosen) args h)
 
-move_formed : (depth : ℕ) (home : Package) (old new : List ℕ) (chosen : Moved) (args : List Segment) → is_text Identifier new ≡ true → AreFormed IsArg (suc depth) args → AreFormed IsArg (suc depth) (move home old new chosen args)
+move_formed : (depth : ℕ) (home : Package) (old new : List ℕ) (chosen : Chosen) (args : List Segment) → is_text Identifier new ≡ true → AreFormed IsArg (suc depth) args → AreFormed IsArg (suc depth) (move home old new chosen args)
 move_formed depth home old new chosen args name h =
     subst (AreFormed IsArg (suc depth)) (sym (move_is home old new chosen args))
     (either_way (AreFormed IsArg (suc depth)) (is_some (move_note old new args)) h
@@ -131,24 +131,24 @@ put_in_passes q w new ss args name k h =
     either_way (SegmentsPass q) (has new args) (first_of_name_edited q new (λ a. with_value (edit_first_part (λ there. there ++ ss) (value a)) a) (λ a p. elements_added q ss a k p) args h)
     (argument_added q w new (list_item ss ∷ []) args name (list_passes q ss k) h)
 
-moved_passes : (q : List ℕ → Bool) → PassesWritten q → (home : Package) (old new : List ℕ) (chosen : Moved) (args : List Segment) → q new ≡ true → SegmentsPass q args → SegmentsPass q (moved home old new chosen args)
+moved_passes : (q : List ℕ → Bool) → PassesWritten q → (home : Package) (old new : List ℕ) (chosen : Chosen) (args : List Segment) → q new ≡ true → SegmentsPass q args → SegmentsPass q (moved home old new chosen args)
 moved_passes q w home old new chosen args name h =
     let leaving = all_filtered (SegmentPasses q) (is_chosen home chosen) (elements_of (first_named old args)) (elements_of_pass q (first_named old args) (first_named_passes q old args h)) in
     put_in_passes q w new (arrivals home (elements_of (first_named new args)) (filter (is_chosen home chosen) (elements_of (first_named old args)))) (edit_first (is_named old) (filtered (unchosen home chosen)) args) name
     (arrivals_pass q home (elements_of (first_named new args)) (filter (is_chosen home chosen) (elements_of (first_named old args))) leaving)
     (edited_first_passes q (is_named old) (filtered (unchosen home chosen)) (filtered_passes q home chosen) args h)
 
-move_passes : (q : List ℕ → Bool) → PassesWritten q → (home : Package) (old new : List ℕ) (chosen : Moved) (args : List Segment) → q new ≡ true → SegmentsPass q args → SegmentsPass q (move home old new chosen args)
+move_passes : (q : List ℕ → Bool) → PassesWritten q → (home : Package) (old new : List ℕ) (chosen : Chosen) (args : List Segment) → q new ≡ true → SegmentsPass q args → SegmentsPass q (move home old new chosen args)
 move_passes q w home old new chosen args name h =
     subst (SegmentsPass q) (sym (move_is home old new chosen args))
     (either_way (SegmentsPass q) (is_some (move_note old new args)) h
     (either_way (SegmentsPass q) (moves home old chosen args) (moved_passes q w home old new chosen args name h) h))
 
-moved_to : (old new : List ℕ) (chosen : Moved) → is_command (Move old new chosen) ≡ true → is_identifier new ≡ true
+moved_to : (old new : List ℕ) (chosen : Chosen) → is_command (Move old new chosen) ≡ true → is_identifier new ≡ true
 moved_to old new chosen h =
     (and_parts (is_identifier old) (is_identifier new) (and_parts _ (not (bytes_eq old new)) (and_parts _ (is_moved chosen) h).0).0).1
 
-pub move_keeping : (home : Package) (old new : List ℕ) (chosen : Moved) → Keeps (Move old new chosen) home
+pub move_keeping : (home : Package) (old new : List ℕ) (chosen : Chosen) → Keeps (Move old new chosen) home
 unfolding is_identifier
 move_keeping home old new chosen = keeps_slot (Move old new chosen) home (λ slot. refl) (λ slot. refl) (record {
   aside = λ g aside args. let leaves = leaves_both aside old new (λ attr. refl) in move_aside g aside.names home old new chosen leaves.0 leaves.1 args;

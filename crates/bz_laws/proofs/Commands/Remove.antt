@@ -4,8 +4,8 @@ use Rattle.bz_tree.specs.Tree.{Segment}
 use Rattle.bz_label.specs.Labels.{Package}
 use Rattle.bz_label.specs.declared.arguments.Attributes.{Attributes}
 use Rattle.bz_label.specs.declared.arguments.Attributes.TheVariants.{Every, Named}
-use Rattle.bz_label.specs.declared.arguments.Moved.{Moved}
-use Rattle.bz_label.specs.declared.arguments.Moved.TheVariants.{Values}
+use Rattle.bz_label.specs.declared.arguments.Chosen.{Chosen}
+use Rattle.bz_label.specs.declared.arguments.Chosen.TheVariants.{Values}
 use Rattle.bz_rule.specs.declared.command.Action.TheVariants.{Remove}
 use Rattle.bz_attribute.specs.Rules.{is_named, value}
 use Rattle.bz_attribute.specs.Lists.{edit_parts, is_attribute, parts, with_value}
@@ -46,7 +46,7 @@ remove_told home (Named attr) (v ∷ values) g aside args = rw (first_kept g asi
 
 -- what it leaves is well formed, and passes a test
 
-everywhere_good : (depth : ℕ) (home : Package) (chosen : Moved) (a : Segment) → IsFormed IsArg (suc depth) a → AreFormed IsArg (suc depth) (if is_attribute a then filtered (unchosen home chosen) a else a ∷ [])
+everywhere_good : (depth : ℕ) (home : Package) (chosen : Chosen) (a : Segment) → IsFormed IsArg (suc depth) a → AreFormed IsArg (suc depth) (if is_attribute a then filtered (unchosen home chosen) a else a ∷ [])
 everywhere_good depth home chosen a good =
     elim (is_attribute a) as (λ b. is_attribute a ≡ b → AreFormed IsArg (suc depth) (if b then filtered (unchosen home chosen) a else a ∷ []))
     [ true ↦ λ e. filtered_good depth home chosen a e good | false ↦ λ e. (good, tt) ] refl
@@ -58,7 +58,7 @@ remove_good depth home Every (v ∷ values) args h =
 remove_good depth home (Named attr) [] args h = all_filtered (IsFormed IsArg (suc depth)) (λ a. not (is_named attr a)) args h
 remove_good depth home (Named attr) (v ∷ values) args h = first_good (suc depth) attr (filtered (unchosen home (Values (v ∷ values)))) (filtered_good depth home (Values (v ∷ values))) args h
 
-everywhere_passes : (q : List ℕ → Bool) (home : Package) (chosen : Moved) (a : Segment) → SegmentPasses q a → SegmentsPass q (if is_attribute a then filtered (unchosen home chosen) a else a ∷ [])
+everywhere_passes : (q : List ℕ → Bool) (home : Package) (chosen : Chosen) (a : Segment) → SegmentPasses q a → SegmentsPass q (if is_attribute a then filtered (unchosen home chosen) a else a ∷ [])
 everywhere_passes q home chosen a h =
     either_way (SegmentsPass q) (is_attribute a) (filtered_passes q home chosen a h) (h, tt)
 
@@ -70,7 +70,7 @@ remove_passes q home (Named attr) [] args h = all_filtered (SegmentPasses q) (λ
 remove_passes q home (Named attr) (v ∷ values) args h = edited_first_passes q (is_named attr) (filtered (unchosen home (Values (v ∷ values)))) (filtered_passes q home (Values (v ∷ values))) args h
 
 -- of the elements of an argument that `remove` leaves, those stay that no value equals, as they were
-pub left_elements : (home : Package) (chosen : Moved) (a b : Segment) → is_attribute a ≡ true → filtered (unchosen home chosen) a ≡ b ∷ [] → parts (value b) ≡ map (unchosen home chosen) (parts (value a))
+pub left_elements : (home : Package) (chosen : Chosen) (a b : Segment) → is_attribute a ≡ true → filtered (unchosen home chosen) a ≡ b ∷ [] → parts (value b) ≡ map (unchosen home chosen) (parts (value a))
 left_elements home chosen a b h is =
     elim (loses_all (unchosen home chosen) (value a)) as (λ l. (if l then [] else with_value (edit_parts (unchosen home chosen) (value a)) a ∷ []) ≡ b ∷ [] → parts (value b) ≡ map (unchosen home chosen) (parts (value a))) [
       | true ↦ λ k. absurd cc

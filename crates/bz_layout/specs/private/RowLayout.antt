@@ -15,8 +15,8 @@ use Rattle.bz_layout.specs.declared.marks.Marks.{Marks}
 use Rattle.bz_layout.specs.declared.walk.OpenBracket.{OpenBracket}
 use Rattle.bz_layout.specs.declared.walk.RowWriter.{RowWriter}
 use Rattle.bz_layout.specs.Respell.{respell}
-use Rattle.bz_layout.specs.Spacing.{hugs}
-use Rattle.bz_layout.specs.Walked.{closes_up, edge_after, gap_for, opening as opening_text, closing as closing_text}
+use Rattle.bz_layout.specs.Spacing.{is_group_without_space}
+use Rattle.bz_layout.specs.Walked.{no_space_before, edge_after, gap_for, opening as opening_text, closing as closing_text}
 use Rattle.bz_layout.specs.Broken.{breaks_by_count}
 use Rattle.bz_layout.specs.Pieces.{gap_bytes, bytes_of, comment_lines}
 use Rattle.bz_layout.specs.Layout.{has_commas}
@@ -113,13 +113,13 @@ put_comment has gap text s = record s { text = s.text ++ (if has then gap_bytes 
 
 abbrev pub with_token : Kind → List ℕ → Laid → Laid
 with_token kind text s = record s {
-  text = s.text ++ (due s.here s.left ++ (gap_bytes (gap_for (first_gap s.here s.level) s.left (closes_up (leaf kind text))) ++ respell kind text));
+  text = s.text ++ (due s.here s.left ++ (gap_bytes (gap_for (first_gap s.here s.level) s.left (no_space_before (leaf kind text))) ++ respell kind text));
   left = edge_after s.here.within s.left (leaf kind text);
 }
 
 abbrev pub opened : GroupKind → Laid → Laid
 opened kind s = record {
-  text = s.text ++ (due s.here s.left ++ (gap_bytes (gap_for (first_gap s.here s.level) s.left (hugs kind)) ++ opening_text kind));
+  text = s.text ++ (due s.here s.left ++ (gap_bytes (gap_for (first_gap s.here s.level) s.left (is_group_without_space kind)) ++ opening_text kind));
   marks = drop 1 s.marks;
   outer = s.here ∷ s.outer;
   here = record { within = Some kind; mark = get_or s.marks 0 (top None).mark; later = false };

@@ -6,7 +6,7 @@ use Rattle.bz_label.specs.Labels.{Package}
 use Rattle.bz_attribute.specs.Rules.{is_named, first_named, value}
 use Rattle.bz_attribute.specs.Lists.{is_attribute, parts, same, with_value}
 use Rattle.bz_attribute.specs.ListWalk.{edit_first_part}
-use Rattle.bz_attribute.specs.Effects.{argument, done, edit_first, has, list_item, not_a_list}
+use Rattle.bz_attribute.specs.Effects.{argument, done, edit_first, has, list_item, no_list_note}
 use Rattle.bz_rule.specs.Add.{add, add_by_value, adds, new_elements, with_added}
 use Rattle.bz_rule.proofs.Adds.{add_is, kept_by_value}
 use Rattle.bz_attribute.specs.declared.done.Note.TheVariants.{NotAList}
@@ -49,9 +49,9 @@ nothing_new : (ss : List Segment) → not (is_empty ss) ≡ false → ss ≡ []
 nothing_new [] h = refl
 nothing_new (s ∷ ss) h = absurd cc
 
-add_stays : (home : Package) (attr : List ℕ) (values : List (List ℕ)) (args : List Segment) → (done (not_a_list attr (first_named attr args)) (adds home values (first_named attr args))).changed ≡ false → add home attr values args ≡ args
+add_stays : (home : Package) (attr : List ℕ) (values : List (List ℕ)) (args : List Segment) → (done (no_list_note attr (first_named attr args)) (adds home values (first_named attr args))).changed ≡ false → add home attr values args ≡ args
 add_stays home attr values args h =
-    elim (first_named attr args) as (λ o. first_named attr args ≡ o → (done (not_a_list attr o) (adds home values o)).changed ≡ false → add home attr values args ≡ args) [
+    elim (first_named attr args) as (λ o. first_named attr args ≡ o → (done (no_list_note attr o) (adds home values o)).changed ≡ false → add home attr values args ≡ args) [
       | None ↦ λ e k. absurd cc
       | Some a ↦ λ e k. add_kept home attr values args a e
           (elim (is_empty (parts (value a))) as (λ b. is_empty (parts (value a)) ≡ b → (done (if b then Some (NotAList attr) else None) (adds home values (Some a))).changed ≡ false → with_added home values a ≡ a)
@@ -72,10 +72,10 @@ added_differs home values a h some told same =
     let clash : false ≡ true = ap (λ (z : List Segment). not (is_empty z)) (sym nothing) ∙ told in
     cc
 
-add_differs : (home : Package) (attr : List ℕ) (values : List (List ℕ)) (args : List Segment) → (done (not_a_list attr (first_named attr args)) (adds home values (first_named attr args))).changed ≡ true → add home attr values args ≡ args → ⊥
+add_differs : (home : Package) (attr : List ℕ) (values : List (List ℕ)) (args : List Segment) → (done (no_list_note attr (first_named attr args)) (adds home values (first_named attr args))).changed ≡ true → add home attr values args ≡ args → ⊥
 add_differs home attr values args h same =
     let made : add_by_value home attr values args ≡ args = sym (add_is home attr values args) ∙ same in
-    elim (first_named attr args) as (λ o. first_named attr args ≡ o → (done (not_a_list attr o) (adds home values o)).changed ≡ true → ⊥) [
+    elim (first_named attr args) as (λ o. first_named attr args ≡ o → (done (no_list_note attr o) (adds home values o)).changed ≡ true → ⊥) [
       | None ↦ λ e k.
           let absent : has attr args ≡ false = has_first attr args ∙ ap is_some e in
           let longer : args ++ new_argument home attr values ∷ [] ≡ args = rw absent at made in
@@ -95,8 +95,8 @@ pub add_lawful : (home : Package) (attr : List ℕ) (values : List (List ℕ)) �
 add_lawful home attr values = on_arguments (Add attr values) home (λ slot. refl) (λ slot. refl) (record {
   stays = λ args h. add_stays home attr values args h;
   differs = λ read args h same. add_differs home attr values args h same;
-  noted = λ args h. note_unchanged (not_a_list attr (first_named attr args)) (adds home values (first_named attr args)) h;
-  local = record { args = add_local home attr values; told = looks_at_one attr _ (λ o. done (not_a_list attr o) (adds home values o)) (λ args. refl); slot = λ s. refl; done = λ s. refl };
+  noted = λ args h. note_unchanged (no_list_note attr (first_named attr args)) (adds home values (first_named attr args)) h;
+  local = record { args = add_local home attr values; told = looks_at_one attr _ (λ o. done (no_list_note attr o) (adds home values o)) (λ args. refl); slot = λ s. refl; done = λ s. refl };
 })
 
 -- What is read of words that are UTF-8 can be read, and its words are UTF-8.

@@ -6,13 +6,13 @@ use Rattle.std.proofs.lemmas.List.{length_push}
 use Rattle.bz_tree.specs.Tree.{Item, leaf, group, Segment, Statement}
 use Rattle.bz_label.specs.Labels.{Package}
 use Rattle.bz_attribute.specs.Rules.{rule_of, is_named, first_named, value, elements}
-use Rattle.bz_attribute.specs.Lists.{equals, is_joint, is_plus, parts}
+use Rattle.bz_attribute.specs.Lists.{equals, may_be_in_sum, is_plus, parts}
 use Rattle.bz_attribute.specs.ListWalk.{edit_list, is_part, parts_from, edit_element, edit_element_from}
 use Rattle.bz_attribute.proofs.ListPieces.{edit_element_is, parts_are}
 use Rattle.bz_attribute.specs.declared.done.Note.{Note}
 use Rattle.bz_attribute.specs.declared.done.Note.TheVariants.{NoAttribute, NoValue}
-use Rattle.bz_attribute.specs.Effects.{done, edit_first, has, holds_rule, is_absent, not_a_list, with_comment}
-use Rattle.bz_rule.specs.Comment.{comment_element, comment_line, comment_note, comment_rule, comment_value, is_missing}
+use Rattle.bz_attribute.specs.Effects.{done, edit_first, has, holds_rule, absent_note, no_list_note, with_comment}
+use Rattle.bz_rule.specs.Comment.{comment_element, comment_line, comment_note, comment_rule, comment_value, no_value_note}
 use Rattle.bz_attribute.proofs.Views.{segments_of}
 use Rattle.bz_label.specs.declared.arguments.Commented.{Commented}
 use Rattle.bz_label.specs.declared.arguments.Commented.TheVariants.{Rule as OfRule, Attribute, Value}
@@ -47,7 +47,7 @@ first_differs p f (s ∷ ss) differs any h = elim (cases_Bool (p s)) [
 ]
 
 -- `comment <attr> <text>`
-present : (attr : List ℕ) (args : List Segment) → is_absent attr args ≡ None → has attr args ≡ true
+present : (attr : List ℕ) (args : List Segment) → absent_note attr args ≡ None → has attr args ≡ true
 present attr args h = elim (cases_Bool (has attr args)) [
   | inl is ↦ is
   | inr other ↦ let note : Some (NoAttribute attr) ≡ None = rw other at h in absurd cc
@@ -79,9 +79,9 @@ element_from p f start (x ∷ xs) differs any h = elim (cases_Bool (is_part star
 
 element_differs : (p : Segment → Bool) (f : Segment → Segment) (nodes : List Item) → ((s : Segment) → f s ≡ s → ⊥) → list_any (list_any p) (parts nodes) ≡ true → edit_element p f nodes ≡ nodes → ⊥
 element_differs p f nodes differs any h =
-    let walked : list_any (list_any p) (if list_all is_joint nodes then parts_from true nodes else []) ≡ true = ap (list_any (list_any p)) (sym (parts_are nodes)) ∙ any in
-    let edited : (if list_all is_joint nodes then edit_element_from p f true nodes else nodes) ≡ nodes = sym (edit_element_is p f nodes) ∙ h in
-    elim (cases_Bool (list_all is_joint nodes)) [
+    let walked : list_any (list_any p) (if list_all may_be_in_sum nodes then parts_from true nodes else []) ≡ true = ap (list_any (list_any p)) (sym (parts_are nodes)) ∙ any in
+    let edited : (if list_all may_be_in_sum nodes then edit_element_from p f true nodes else nodes) ≡ nodes = sym (edit_element_is p f nodes) ∙ h in
+    elim (cases_Bool (list_all may_be_in_sum nodes)) [
       | inl is ↦
           let some : list_any (list_any p) (parts_from true nodes) ≡ true = rw is at walked in
           let same : edit_element_from p f true nodes ≡ nodes = rw is at edited in
@@ -93,7 +93,7 @@ both_none : (a b : Option Note) → option_or a b ≡ None → (a ≡ None) × (
 both_none None b h = (refl, h)
 both_none (Some note) b h = absurd cc
 
-value_differs : (home : Package) (attr v text : List ℕ) (args : List Segment) (o : Option Segment) → first_named attr args ≡ o → is_some o ≡ true → is_missing home attr v o ≡ None
+value_differs : (home : Package) (attr v text : List ℕ) (args : List Segment) (o : Option Segment) → first_named attr args ≡ o → is_some o ≡ true → no_value_note home attr v o ≡ None
     → edit_first (is_named attr) (λ a. comment_element home v text a ∷ []) args ≡ args → ⊥
 value_differs home attr v text args None e there found same = absurd cc
 value_differs home attr v text args (Some a) e there found same =
@@ -111,7 +111,7 @@ comment_value_differs : (home : Package) (attr v text : List ℕ) (args : List S
 comment_value_differs home attr v text args h same =
     let edited : edit_first (is_named attr) (λ a. comment_element home v text a ∷ []) args ≡ args = rw h at same in
     let outer = both_none _ _ h in
-    let inner = both_none (not_a_list attr (first_named attr args)) (is_missing home attr v (first_named attr args)) outer.1 in
+    let inner = both_none (no_list_note attr (first_named attr args)) (no_value_note home attr v (first_named attr args)) outer.1 in
     value_differs home attr v text args (first_named attr args) refl (sym (has_first attr args) ∙ present attr args outer.0) inner.1 edited
 
 -- it always adds its line
@@ -146,7 +146,7 @@ pub rule_edits : (home : Package) (text : List ℕ) → EditsRuleComments (Comme
 rule_edits home text = record { after = rule_commented text; told = rule_told; local = refl; changed = comment_changes text }
 
 pub comment_value_edits : (home : Package) (attr v text : List ℕ)
-    → EditsFirst (Comment (Value attr v) text) home attr (λ there first. option_or (if there attr then None else Some (NoAttribute attr)) (option_or (not_a_list attr first) (is_missing home attr v first))) (λ first. true) (comment_element home v text)
+    → EditsFirst (Comment (Value attr v) text) home attr (λ there first. option_or (if there attr then None else Some (NoAttribute attr)) (option_or (no_list_note attr first) (no_value_note home attr v first))) (λ first. true) (comment_element home v text)
 comment_value_edits home attr v text = record {
   after = λ args. refl;
   told = λ args. refl;

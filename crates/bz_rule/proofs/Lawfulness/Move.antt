@@ -6,7 +6,7 @@ use Rattle.bz_tree.specs.Tree.{Item, Segment}
 use Rattle.bz_label.specs.Labels.{Package}
 use Rattle.bz_label.specs.Arguments.{is_moved}
 use Rattle.bz_rule.specs.Commands.{is_command, Command, IsRead, move_of}
-use Rattle.bz_label.specs.declared.arguments.Moved.{Moved}
+use Rattle.bz_label.specs.declared.arguments.Chosen.{Chosen}
 use Rattle.bz_rule.specs.declared.command.Action.TheVariants.{Move}
 use Rattle.bz_attribute.specs.Rules.{first_named, is_named, is_text as is_word, name_of, value}
 use Rattle.bz_attribute.specs.Lists.{edit_parts, with_value}
@@ -92,7 +92,7 @@ first_left old f (b ∷ args) a h same = elim (cases_Bool (is_named old b)) [
       first_left old f args a found stays
 ]
 
-first_chosen : (home : Package) (old new : List ℕ) (chosen : Moved) (args : List Segment) (first : Option Segment) → first_named old args ≡ first → bytes_eq old new ≡ false
+first_chosen : (home : Package) (old new : List ℕ) (chosen : Chosen) (args : List Segment) (first : Option Segment) → first_named old args ≡ first → bytes_eq old new ≡ false
     → moved home old new chosen args ≡ args → map_or false (chooses home chosen) first ≡ false
 first_chosen home old new chosen args None e other same = refl
 first_chosen home old new chosen args (Some a) e other same =
@@ -101,19 +101,19 @@ first_chosen home old new chosen args (Some a) e other same =
     sym (named_put old new (arrivals home (elements_of (first_named new args)) (filter (is_chosen home chosen) (elements_of (first_named old args)))) left other) ∙ ap (filter (is_named old)) same in
     filtered_same home chosen a (attribute_named old a (is_first_named old args a e)) (first_left old (unchosen home chosen) args a e named)
 
-move_differs : (home : Package) (old new : List ℕ) (chosen : Moved) (args : List Segment) → bytes_eq old new ≡ false → move_note old new args ≡ None
+move_differs : (home : Package) (old new : List ℕ) (chosen : Chosen) (args : List Segment) → bytes_eq old new ≡ false → move_note old new args ≡ None
     → moves home old chosen args ≡ true → move home old new chosen args ≡ args → ⊥
 move_differs home old new chosen args other noted some same =
     let made : moved home old new chosen args ≡ args = rw (noted, some) at (sym (move_is home old new chosen args) ∙ same) in
     let clash : true ≡ false = sym some ∙ first_chosen home old new chosen args (first_named old args) refl other made in
     absurd cc
 
-others : (old new : List ℕ) (chosen : Moved) → is_command (Move old new chosen) ≡ true → bytes_eq old new ≡ false
+others : (old new : List ℕ) (chosen : Chosen) → is_command (Move old new chosen) ≡ true → bytes_eq old new ≡ false
 others old new chosen h =
     let parts = and_parts ((is_identifier old && is_identifier new) && not (bytes_eq old new)) (is_moved chosen) h in
     not-true (bytes_eq old new) (and_parts (is_identifier old && is_identifier new) (not (bytes_eq old new)) parts.0).1
 
-pub move_lawful : (home : Package) (old new : List ℕ) (chosen : Moved) → Lawful (Move old new chosen) home
+pub move_lawful : (home : Package) (old new : List ℕ) (chosen : Chosen) → Lawful (Move old new chosen) home
 move_lawful home old new chosen = on_arguments (Move old new chosen) home (λ slot. refl) (λ slot. refl) (record {
   stays = λ args h. move_is home old new chosen args ∙ guarded_same (move_note old new args) (moves home old chosen args) (moved_where home old new chosen args) args (λ k. rw k refl) h;
   differs = λ read args h same.

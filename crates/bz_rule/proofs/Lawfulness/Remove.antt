@@ -8,8 +8,8 @@ use Rattle.bz_tree.specs.Tree.{Item, leaf, group, Segment, segments}
 use Rattle.bz_label.specs.Labels.{Package}
 use Rattle.bz_label.specs.declared.arguments.Attributes.{Attributes}
 use Rattle.bz_label.specs.declared.arguments.Attributes.TheVariants.{Every, Named}
-use Rattle.bz_label.specs.declared.arguments.Moved.{Moved}
-use Rattle.bz_label.specs.declared.arguments.Moved.TheVariants.{Values}
+use Rattle.bz_label.specs.declared.arguments.Chosen.{Chosen}
+use Rattle.bz_label.specs.declared.arguments.Chosen.TheVariants.{Values}
 use Rattle.bz_rule.specs.declared.command.Action.TheVariants.{Remove}
 use Rattle.bz_attribute.specs.Rules.{is_named, value}
 use Rattle.bz_attribute.specs.Lists.{edit_parts, is_attribute, parts, with_value}
@@ -37,16 +37,16 @@ none_lost p (group ListKind segs one_comma end ∷ []) h = rw (all_stay p (segme
 none_lost p (group ListKind segs one_comma end ∷ x ∷ xs) h = refl
 none_lost p (group _ segs one_comma end ∷ xs) h = refl
 
-pub filtered_stays : (home : Package) (chosen : Moved) (a : Segment) → chooses home chosen a ≡ false → filtered (unchosen home chosen) a ≡ a ∷ []
+pub filtered_stays : (home : Package) (chosen : Chosen) (a : Segment) → chooses home chosen a ≡ false → filtered (unchosen home chosen) a ≡ a ∷ []
 filtered_stays home chosen a h =
     let edited : edit_parts (unchosen home chosen) (value a) ≡ value a = parts_stay (unchosen home chosen) (value a) (all_stay_in (is_chosen home chosen) (parts (value a)) h) in
     let kept : loses_all (unchosen home chosen) (value a) ≡ false = none_lost (is_chosen home chosen) (value a) h in
     rw (kept, edited) (ap (λ (z : Segment). z ∷ []) (value_back a))
 
-pub parts_put : (home : Package) (chosen : Moved) (a : Segment) → is_attribute a ≡ true → parts (value (with_value (edit_parts (unchosen home chosen) (value a)) a)) ≡ map (unchosen home chosen) (parts (value a))
+pub parts_put : (home : Package) (chosen : Chosen) (a : Segment) → is_attribute a ≡ true → parts (value (with_value (edit_parts (unchosen home chosen) (value a)) a)) ≡ map (unchosen home chosen) (parts (value a))
 parts_put home chosen a h = ap parts (value_put (edit_parts (unchosen home chosen) (value a)) a h) ∙ parts_edited (unchosen home chosen) (value a)
 
-pub filtered_same : (home : Package) (chosen : Moved) (a : Segment) → is_attribute a ≡ true → filtered (unchosen home chosen) a ≡ a ∷ [] → chooses home chosen a ≡ false
+pub filtered_same : (home : Package) (chosen : Chosen) (a : Segment) → is_attribute a ≡ true → filtered (unchosen home chosen) a ≡ a ∷ [] → chooses home chosen a ≡ false
 filtered_same home chosen a h same =
     elim (loses_all (unchosen home chosen) (value a)) as (λ b. (if b then [] else with_value (edit_parts (unchosen home chosen) (value a)) a ∷ []) ≡ a ∷ [] → chooses home chosen a ≡ false) [
       | true ↦ λ k. absurd cc
@@ -56,7 +56,7 @@ filtered_same home chosen a h same =
     ] same
 
 -- what is left of an argument has no chosen element
-pub filtered_left : (home : Package) (chosen : Moved) (a : Segment) → is_attribute a ≡ true → list_any (chooses home chosen) (filtered (unchosen home chosen) a) ≡ false
+pub filtered_left : (home : Package) (chosen : Chosen) (a : Segment) → is_attribute a ≡ true → list_any (chooses home chosen) (filtered (unchosen home chosen) a) ≡ false
 filtered_left home chosen a h =
     elim (loses_all (unchosen home chosen) (value a)) as (λ b. list_any (chooses home chosen) (if b then [] else with_value (edit_parts (unchosen home chosen) (value a)) a ∷ []) ≡ false) [
       | true ↦ refl
@@ -70,7 +70,7 @@ less p q (s ∷ ss) h =
     let both = or_parts (q s) (list_any q ss) h in
     rw (and_right (p s) (q s) both.0) (less p q ss both.1)
 
-pub everywhere_left : (home : Package) (chosen : Moved) (args : List Segment) → list_any (λ a. is_attribute a && chooses home chosen a) (flat_map (λ a. if is_attribute a then filtered (unchosen home chosen) a else a ∷ []) args) ≡ false
+pub everywhere_left : (home : Package) (chosen : Chosen) (args : List Segment) → list_any (λ a. is_attribute a && chooses home chosen a) (flat_map (λ a. if is_attribute a then filtered (unchosen home chosen) a else a ∷ []) args) ≡ false
 everywhere_left home chosen [] = refl
 everywhere_left home chosen (a ∷ args) =
     let p : Segment → Bool = λ z. is_attribute z && chooses home chosen z in
@@ -80,7 +80,7 @@ everywhere_left home chosen (a ∷ args) =
     [ true ↦ λ e. less is_attribute (chooses home chosen) (filtered (unchosen home chosen) a) (filtered_left home chosen a e) | false ↦ λ e. rw e refl ] refl in
     list_any-append p (if is_attribute a then filtered (unchosen home chosen) a else a ∷ []) (flat_map (λ a. if is_attribute a then filtered (unchosen home chosen) a else a ∷ []) args) ∙ rw (here, rest) refl
 
-pub everywhere_stays : (home : Package) (chosen : Moved) (args : List Segment) → list_any (λ a. is_attribute a && chooses home chosen a) args ≡ false → flat_map (λ a. if is_attribute a then filtered (unchosen home chosen) a else a ∷ []) args ≡ args
+pub everywhere_stays : (home : Package) (chosen : Chosen) (args : List Segment) → list_any (λ a. is_attribute a && chooses home chosen a) args ≡ false → flat_map (λ a. if is_attribute a then filtered (unchosen home chosen) a else a ∷ []) args ≡ args
 everywhere_stays home chosen [] h = refl
 everywhere_stays home chosen (a ∷ args) h =
     let both = or_parts (is_attribute a && chooses home chosen a) (list_any (λ a. is_attribute a && chooses home chosen a) args) h in

@@ -6,7 +6,7 @@ use Rattle.bz_token.specs.Common.{map_or}
 use Rattle.bz_token.specs.declared.token.Kind.TheVariants.{Identifier, Operator}
 use Rattle.bz_tree.specs.Tree.{Item, leaf, Segment}
 use Rattle.bz_label.specs.Labels.{Package}
-use Rattle.bz_label.specs.declared.arguments.Moved.{Moved}
+use Rattle.bz_label.specs.declared.arguments.Chosen.{Chosen}
 use Rattle.bz_attribute.specs.Rules.{Rule, first_named, is_named, is_text, kind_text, string_value}
 use Rattle.bz_attribute.specs.Effects.{edit_first, filtered, is_chosen, nodes_of, unchosen}
 use Rattle.bz_rule.specs.Move.{arrivals, elements_of, moves, put_in}
@@ -25,11 +25,11 @@ abbrev pub kind_after : List ℕ → List Item → Option Rule → List Item
 kind_after kind nodes rule = map_or nodes (λ r. if bytes_eq (kind_text r.kind) kind then nodes else nodes_of (record r { kind = kind_items kind })) rule
 
 -- the chosen elements moved
-abbrev pub moved : Package → List ℕ → List ℕ → Moved → List Segment → List Segment
+abbrev pub moved : Package → List ℕ → List ℕ → Chosen → List Segment → List Segment
 moved home old new chosen args =
     put_in new (arrivals home (elements_of (first_named new args)) (filter (is_chosen home chosen) (elements_of (first_named old args))))
     (edit_first (is_named old) (filtered (unchosen home chosen)) args)
 
 -- nothing is moved where no element is chosen
-abbrev pub moved_where : Package → List ℕ → List ℕ → Moved → List Segment → List Segment
+abbrev pub moved_where : Package → List ℕ → List ℕ → Chosen → List Segment → List Segment
 moved_where home old new chosen args = if moves home old chosen args then moved home old new chosen args else args

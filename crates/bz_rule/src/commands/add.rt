@@ -28,7 +28,7 @@ pub fn add<'a>(
     written: &mut Parts<'a>,
 ) -> Result<Edit, NoMemory>
     ensures { IfOk result (IsRowEdit (spec.add env.entry.home.now attr.now values.now)
-        (λ args. effects.done (effects.not_a_list attr.now (first_named attr.now args))
+        (λ args. effects.done (effects.no_list_note attr.now (first_named attr.now args))
         (spec.adds env.entry.home.now values.now (first_named attr.now args)))
         (map part_view parts.now) (map part_view written.new.items)) }
 {

@@ -2,7 +2,7 @@
 
 ghost use Rattle.std.specs.Prelude.{◌≡◌, ◌≤◌, ◌++◌, None as Nothing, map, length, IfOk, IfSome, OnOk};
 ghost use Rattle.bz_tree.specs.Rows.{part_view};
-ghost use Rattle.bz_label.specs.declared.arguments.Moved.{Moved as Choice};
+ghost use Rattle.bz_label.specs.declared.arguments.Chosen.{Chosen as Choice};
 ghost use Rattle.bz_attribute.specs.Effects.{done, is_chosen};
 ghost use Rattle.bz_attribute.specs.RowEdits.{IsRowEdit, replaced_at};
 ghost use Rattle.bz_rule.specs.Move as spec;
@@ -19,7 +19,7 @@ use bumpalo::Bump;
 use bz_attribute::{
     Done, Edit, Env, Parts, Place, WordSet, argument_place, elements_end, new_place,
 };
-use bz_label::Moved;
+use bz_label::Chosen;
 use bz_memory::{NoMemory, extend_from_slice};
 use bz_tree::Part;
 
@@ -28,7 +28,7 @@ use bz_tree::Part;
 pub struct Move<'c> {
     pub old: &'c str,
     pub new: &'c str,
-    pub moved: &'c Moved,
+    pub moved: &'c Chosen,
 }
 
 /// Moves elements of the first argument of one name to the first one of another, or to a new one, in the rule that has
@@ -76,11 +76,11 @@ fn move_chosen<'a>(
         (map part_view parts.now) (map part_view written.new.items)) }
 {
     match change.moved {
-        Moved::All => {
+        Chosen::All => {
             let meant = Meant::Any;
             move_meant(lists, change, StringEdit { env, meant }, parts, written)
         }
-        Moved::Values(values) => {
+        Chosen::Values(values) => {
             let words = WordSet::new(env.alloc, env.home, values.as_slice())?;
             let meant = Meant::Words(&words);
             move_meant(lists, change, StringEdit { env, meant }, parts, written)

@@ -4,7 +4,7 @@ use Rattle.bz_token.specs.declared.scan_string.Escape.{Escape}
 use Rattle.bz_token.specs.declared.scan_string.Escape.TheVariants.{Unescaped, AfterBackslash, AfterReturn}
 use Rattle.bz_token.specs.declared.scan_string.Quotes.{Quotes}
 use Rattle.bz_token.specs.declared.scan_string.Opening.{Opening}
-use Rattle.bz_token.specs.Strings.{closing_row, has_closing, inside, is_one_string}
+use Rattle.bz_token.specs.Strings.{quote_count, has_closing, inside, is_one_string}
 use Rattle.bz_token.specs.Common.{begins, is_empty, map_or}
 
 -- the letters `r`, `b`, `rb` and `br` that stand here
@@ -15,7 +15,7 @@ prefix_letters (a ∷ bs) =
     else (if a == 98 then (if begins (λ b. b == 114) bs then 2 else 1) else 0)
 
 abbrev pub opening_length : Opening → ℕ
-opening_length o = o.prefix + closing_row o.quotes.long
+opening_length o = o.prefix + quote_count o.quotes.long
 
 abbrev pub is_closed : Option Opening → List ℕ → Bool
 is_closed opened text = map_or false (λ o. has_closing o.quotes (inside o text) && is_one_string o text) opened
@@ -40,7 +40,7 @@ closes quotes row escape [] = false
 closes quotes row escape (b ∷ bs) = elim (is_escaped escape b) [
   | true ↦ closes quotes 0 (escape_after escape b) bs
   | false ↦ elim (b == quotes.byte) [
-    | true ↦ elim (row + 1 == closing_row quotes.long) [
+    | true ↦ elim (row + 1 == quote_count quotes.long) [
       | true ↦ is_empty bs
       | false ↦ closes quotes (row + 1) (escape_after escape b) bs
     ]

@@ -12,7 +12,7 @@ use Rattle.bz_tree.specs.declared.grammar.role.Role.TheVariants.{Name, Number, V
 use Rattle.bz_tree.specs.Tree.{Item, leaf, group, Items, no_items, item, Segs, no_segs, seg}
 use Rattle.bz_tree.specs.Statement.{augmented, is_load_word}
 use Rattle.bz_tree.specs.Grammar as Table
-use Rattle.bz_tree.specs.Grammar.{Row, Form, any, one_of, word, sign, prefix, star, assignment, binary, binary_signs, binary_words, bracket, segment, row, ◌then◌, ◌or◌, many, maybe, each_segment, rule, Part, node, between_commas, nodes, contents, Has, none, of_kind, of_texts, in_bracket, in_segment, by_rule, both, this, that, no_more, again, Is}
+use Rattle.bz_tree.specs.Grammar.{Nonterminal, Form, any, one_of, word, sign, prefix, star, assignment, binary, binary_signs, binary_words, bracket, segment, the, ◌then◌, ◌or◌, many, maybe, each_segment, production, Part, node, between_commas, nodes, contents, Has, none, of_kind, of_texts, in_bracket, in_segment, by_production, in_turn, or_left, or_right, no_more, again, AreOf}
 use Rattle.bz_tree.specs.private.Productions.{token_role, leaf_role, is_prefix, is_operator, is_star, is_assignment, join, begins_dot, IsBinOp, operator, not_in, IsTest, plain, conditional, IsChain, single, binary as binary_chain, IsTerm, primary, unary, IsPrimary, number, operand, AreSuffixes, no_suffix, member, suffix, IsSuffix, call, index, IsOperand, ident, text as text_operand, paren, list, dict, list_comp, dict_comp, AreTests, no_test, one_test, AreArgs, no_arg, one_arg, IsArg, positional, keyword, starred, AreEntries, no_entry, one_entry, IsEntry, entry, element, IsEntryElement, entry_element, IsFor, for, AreTargets, last_target, target, AreClauses, no_clause, for_clause, if_clause, IsIndex, at, slice, IsRange, upper, stepped, IsOptional, nothing, some, IsExpr, last_test, test, IsString, string, IsLoadArg, loaded, renamed, AreLoadArgs, no_load_arg, load_arg, IsLoad, load, IsStatement, comments, load_statement, expression, assignment as assigned}
 use Rattle.bz_tree.proofs.Recognizer.Accepted.{join_empty, join_assoc}
 use Rattle.bz_tree.proofs.Recognizer.Tokens.{one_by_one}
@@ -24,22 +24,22 @@ record Single (P : Item → Type 0) (xs : Items) : Type 0 where
   has : P x
 
 -- what a row means of nodes
-abbrev Means : Row → Items → Type 0
-Means Table.Row.Statement xs = IsStatement xs
-Means Table.Row.LoadArgument xs = IsLoadArg xs
-Means Table.Row.Expression xs = IsExpr xs
-Means Table.Row.Test xs = IsTest xs
-Means Table.Row.Binary xs = IsChain xs
-Means Table.Row.Unary xs = IsTerm xs
-Means Table.Row.Primary xs = IsPrimary xs
-Means Table.Row.Operand xs = Single IsOperand xs
-Means Table.Row.Suffix xs = (ys : Items) → AreSuffixes ys → AreSuffixes (join xs ys)
-Means Table.Row.Bracketed xs = Single IsSuffix xs
-Means Table.Row.Argument xs = IsArg xs
-Means Table.Row.Entry xs = IsEntry xs
-Means Table.Row.Clauses xs = IsFor xs
-Means Table.Row.For xs = (ys : Items) → AreClauses ys → IsFor (join xs ys)
-Means Table.Row.Subscript xs = IsIndex xs
+abbrev Means : Nonterminal → Items → Type 0
+Means Table.Nonterminal.Statement xs = IsStatement xs
+Means Table.Nonterminal.LoadArgument xs = IsLoadArg xs
+Means Table.Nonterminal.Expression xs = IsExpr xs
+Means Table.Nonterminal.Test xs = IsTest xs
+Means Table.Nonterminal.Binary xs = IsChain xs
+Means Table.Nonterminal.Unary xs = IsTerm xs
+Means Table.Nonterminal.Primary xs = IsPrimary xs
+Means Table.Nonterminal.Operand xs = Single IsOperand xs
+Means Table.Nonterminal.Suffix xs = (ys : Items) → AreSuffixes ys → AreSuffixes (join xs ys)
+Means Table.Nonterminal.Bracketed xs = Single IsSuffix xs
+Means Table.Nonterminal.Argument xs = IsArg xs
+Means Table.Nonterminal.Entry xs = IsEntry xs
+Means Table.Nonterminal.Clauses xs = IsFor xs
+Means Table.Nonterminal.For xs = (ys : Items) → AreClauses ys → IsFor (join xs ys)
+Means Table.Nonterminal.Subscript xs = IsIndex xs
 
 -- two parts, one after the other
 record Both (F G : Items → Type 0) (xs : Items) : Type 0 where
@@ -92,7 +92,7 @@ abbrev mutual
   Meant (one_of k texts) xs = Single (IsOneOf k texts) xs
   Meant (bracket k f) xs = InBracket k (MeantOf f) xs
   Meant (segment f) xs = Unit {0}
-  Meant (row r) xs = Means r xs
+  Meant (the r) xs = Means r xs
   Meant (f then g) xs = Both (Meant f) (Meant g) xs
   Meant (f or g) xs = Meant f xs ⊎ Meant g xs
   Meant (many f) xs = Repeated (Meant f) xs
@@ -172,7 +172,7 @@ each_in F (seg before ys beside segs) _ (step_of {ps} {qs} s more) e =
     let cut = cut_segment F s.xs ps qs (between_commas ys ∷ contents segs) s.is e in
     (first_segment F s.xs ys (contents segs) qs cut s.has, each_in F segs qs more (later_segments s.xs ys (contents segs) qs cut))
 
-each_of : (r : Row) (segs : Segs) → MeantOf (each_segment r) (contents segs) → EachIn (Means r) segs
+each_of : (r : Nonterminal) (segs : Segs) → MeantOf (each_segment r) (contents segs) → EachIn (Means r) segs
 each_of r segs h = each_in (Means r) segs (contents segs) h refl
 
 -- the only segment
@@ -217,11 +217,11 @@ load_args_in (seg before xs beside segs) h = load_arg h.0 (load_args_in segs h.1
 ended : (xs a b : Items) → xs ≡ join a b → b ≡ no_items → a ≡ xs
 ended xs a b is e = sym (is ∙ ap (join a) e ∙ join_empty a)
 
-test_with : (xs a b : Items) → xs ≡ join a b → IsChain a → Meant (maybe (word (codes "if") then row Table.Row.Binary then word (codes "else") then row Table.Row.Test)) b → IsTest xs
+test_with : (xs a b : Items) → xs ≡ join a b → IsChain a → Meant (maybe (word (codes "if") then the Table.Nonterminal.Binary then word (codes "else") then the Table.Nonterminal.Test)) b → IsTest xs
 test_with xs a b is c (inl e) = plain (subst IsChain (ended xs a b is e) c)
 test_with xs a b is c (inr m) =
-    let i = after_word (codes "if") (Meant (row Table.Row.Binary then word (codes "else") then row Table.Row.Test)) b m in
-    let e = after_word (codes "else") (Meant (row Table.Row.Test)) i.other.back i.other.other in
+    let i = after_word (codes "if") (Meant (the Table.Nonterminal.Binary then word (codes "else") then the Table.Nonterminal.Test)) b m in
+    let e = after_word (codes "else") (Meant (the Table.Nonterminal.Test)) i.other.back i.other.other in
     conditional i.x e.x (is ∙ ap (join a) (i.is ∙ ap (item i.x) (i.other.is ∙ ap (join i.other.front) e.is))) c i.has i.other.one e.has e.other
 
 not_in_of : (xs : Items) → Meant (word (codes "not") then word (codes "in")) xs → IsBinOp xs
@@ -242,7 +242,7 @@ binary_of xs (inr (inl t)) =
     subst IsBinOp (sym o.is) (operator o.has)
 binary_of xs (inr (inr b)) = not_in_of xs b
 
-chain_with : (a : Items) → IsTerm a → (m : Items) → Repeated (Meant (binary then row Table.Row.Unary)) m → IsChain (join a m)
+chain_with : (a : Items) → IsTerm a → (m : Items) → Repeated (Meant (binary then the Table.Nonterminal.Unary)) m → IsChain (join a m)
 chain_with a t _ stop = subst IsChain (sym (join_empty a)) (single t)
 chain_with a t _ (step {xs} {ys} s more) =
     binary_chain s.front (ap (join a) (ap (λ zs. join zs ys) s.is ∙ join_assoc s.front s.back ys)) t (binary_of s.front s.one) (chain_with s.back s.other ys more)
@@ -260,11 +260,11 @@ term_with _ (step {xs} {ys} s more) b p =
     let x = prefix_of xs s in
     subst IsTerm (sym (ap (λ zs. join (join zs ys) b) x.is)) (unary x.has (term_with ys more b p))
 
-suffixes_with : (m : Items) → Repeated (Meant (row Table.Row.Suffix)) m → AreSuffixes m
+suffixes_with : (m : Items) → Repeated (Meant (the Table.Nonterminal.Suffix)) m → AreSuffixes m
 suffixes_with _ stop = no_suffix
 suffixes_with _ (step {xs} {ys} s more) = s ys (suffixes_with ys more)
 
-primary_with : (xs a b : Items) → xs ≡ join a b → Single (IsRole Number) a → Meant (maybe (row Table.Row.Bracketed then many (row Table.Row.Suffix))) b → IsPrimary xs
+primary_with : (xs a b : Items) → xs ≡ join a b → Single (IsRole Number) a → Meant (maybe (the Table.Nonterminal.Bracketed then many (the Table.Nonterminal.Suffix))) b → IsPrimary xs
 primary_with xs a b is n (inl e) = subst IsPrimary (sym (is ∙ ap (λ zs. join zs b) n.is ∙ ap (item n.x) e)) (number n.has no_suffix refl)
 primary_with xs a b is n (inr s) =
     subst IsPrimary (sym (is ∙ ap (λ zs. join zs b) n.is ∙ ap (item n.x) (s.is ∙ ap (λ zs. join zs s.back) s.one.is)))
@@ -274,7 +274,7 @@ primary_with xs a b is n (inr s) =
     no_dot _ (call is args) ys = refl
     no_dot _ (index i) ys = refl
 
-primary_of : (xs : Items) → Meant (rule Table.Row.Primary) xs → IsPrimary xs
+primary_of : (xs : Items) → Meant (production Table.Nonterminal.Primary) xs → IsPrimary xs
 primary_of xs (inl b) = subst IsPrimary (sym (b.is ∙ ap (λ zs. join zs b.back) b.one.is)) (operand b.one.has (suffixes_with b.back b.other))
 primary_of xs (inr b) = primary_with xs b.front b.back b.is (number_of b.front b.one) b.other
 
@@ -294,62 +294,62 @@ entry_element_with : (ys a b c : Items) → ys ≡ join a b → IsEntry a → Is
 entry_element_with ys _ b c is (entry {xs} {a} {b = v} colon split first rc second) f =
     entry_element {xs = ys} {a = a} {b = join v b} colon (is ∙ ap (λ zs. join zs b) split ∙ join_assoc a (item colon v) b) first rc (element refl second f)
 
-operand_of : (xs : Items) → Meant (rule Table.Row.Operand) xs → Single IsOperand xs
+operand_of : (xs : Items) → Meant (production Table.Nonterminal.Operand) xs → Single IsOperand xs
 operand_of xs (inl t) = let n = name_of xs t in record { x = n.x; is = n.is; has = ident n.has }
 operand_of xs (inr (inl t)) = let s = string_of xs t in record { x = s.x; is = s.is; has = text_operand s.has }
-operand_of xs (inr (inr (inl b))) = bracketed IsOperand _ (each_segment Table.Row.Test) (λ segs c e h. paren (tests_in segs (each_of Table.Row.Test segs h))) xs b
-operand_of xs (inr (inr (inr (inl b)))) = bracketed IsOperand _ (each_segment Table.Row.Test) (λ segs c e h. list (tests_in segs (each_of Table.Row.Test segs h))) xs b
-operand_of xs (inr (inr (inr (inr (inl b))))) = bracketed IsOperand _ (each_segment Table.Row.Entry) (λ segs c e h. dict (entries_in segs (each_of Table.Row.Entry segs h))) xs b
-operand_of xs (inr (inr (inr (inr (inr (inl b)))))) = only_one IsOperand _ (row Table.Row.Test then row Table.Row.Clauses) (λ before ys beside c e h. list_comp (element h.is h.one h.other)) xs b
+operand_of xs (inr (inr (inl b))) = bracketed IsOperand _ (each_segment Table.Nonterminal.Test) (λ segs c e h. paren (tests_in segs (each_of Table.Nonterminal.Test segs h))) xs b
+operand_of xs (inr (inr (inr (inl b)))) = bracketed IsOperand _ (each_segment Table.Nonterminal.Test) (λ segs c e h. list (tests_in segs (each_of Table.Nonterminal.Test segs h))) xs b
+operand_of xs (inr (inr (inr (inr (inl b))))) = bracketed IsOperand _ (each_segment Table.Nonterminal.Entry) (λ segs c e h. dict (entries_in segs (each_of Table.Nonterminal.Entry segs h))) xs b
+operand_of xs (inr (inr (inr (inr (inr (inl b)))))) = only_one IsOperand _ (the Table.Nonterminal.Test then the Table.Nonterminal.Clauses) (λ before ys beside c e h. list_comp (element h.is h.one h.other)) xs b
 operand_of xs (inr (inr (inr (inr (inr (inr b)))))) =
-    only_one IsOperand _ (row Table.Row.Entry then row Table.Row.Clauses) (λ before ys beside c e h. dict_comp (entry_element_with ys h.front h.back no_items h.is h.one h.other)) xs b
+    only_one IsOperand _ (the Table.Nonterminal.Entry then the Table.Nonterminal.Clauses) (λ before ys beside c e h. dict_comp (entry_element_with ys h.front h.back no_items h.is h.one h.other)) xs b
 
-suffix_of : (xs : Items) → Meant (rule Table.Row.Suffix) xs → Means Table.Row.Suffix xs
+suffix_of : (xs : Items) → Meant (production Table.Nonterminal.Suffix) xs → Means Table.Nonterminal.Suffix xs
 suffix_of xs (inl b) ys more =
     let d = after_sign (codes ".") (Meant (any Identifier)) xs b in
     let n = name_of d.rest d.other in
     subst AreSuffixes (sym (ap (λ zs. join zs ys) (d.is ∙ ap (item d.x) n.is))) (member d.has n.has more)
 suffix_of xs (inr s) ys more = subst AreSuffixes (sym (ap (λ zs. join zs ys) s.is)) (suffix s.has more)
 
-bracketed_of : (xs : Items) → Meant (rule Table.Row.Bracketed) xs → Single IsSuffix xs
-bracketed_of xs (inl b) = bracketed IsSuffix Call (each_segment Table.Row.Argument) (λ segs c e h. call refl (args_in segs (each_of Table.Row.Argument segs h))) xs b
-bracketed_of xs (inr (inl b)) = bracketed IsSuffix RuleCall (each_segment Table.Row.Argument) (λ segs c e h. call refl (args_in segs (each_of Table.Row.Argument segs h))) xs b
-bracketed_of xs (inr (inr b)) = only_one IsSuffix _ (row Table.Row.Subscript) (λ before ys beside c e h. index h) xs b
+bracketed_of : (xs : Items) → Meant (production Table.Nonterminal.Bracketed) xs → Single IsSuffix xs
+bracketed_of xs (inl b) = bracketed IsSuffix Call (each_segment Table.Nonterminal.Argument) (λ segs c e h. call refl (args_in segs (each_of Table.Nonterminal.Argument segs h))) xs b
+bracketed_of xs (inr (inl b)) = bracketed IsSuffix RuleCall (each_segment Table.Nonterminal.Argument) (λ segs c e h. call refl (args_in segs (each_of Table.Nonterminal.Argument segs h))) xs b
+bracketed_of xs (inr (inr b)) = only_one IsSuffix _ (the Table.Nonterminal.Subscript) (λ before ys beside c e h. index h) xs b
 
 abbrev IsStarItem : Item → Type 0
 IsStarItem x = is_star (token_role x) ≡ true
 
-argument_of : (xs : Items) → Meant (rule Table.Row.Argument) xs → IsArg xs
+argument_of : (xs : Items) → Meant (production Table.Nonterminal.Argument) xs → IsArg xs
 argument_of xs (inl t) = positional t
 argument_of xs (inr (inl b)) =
-    let n = after_name (Meant (sign (codes "=") then row Table.Row.Test)) xs b in
+    let n = after_name (Meant (sign (codes "=") then the Table.Nonterminal.Test)) xs b in
     let e = after_sign (codes "=") IsTest n.rest n.other in
     subst IsArg (sym (n.is ∙ ap (item n.x) e.is)) (keyword n.has e.has e.other)
 argument_of xs (inr (inr b)) =
     let s = headed IsStarItem (Meant star) IsTest (λ ys t. tokens OperatorToken (codes "*" ∷ codes "**" ∷ []) IsStarItem (refl, (refl, tt)) ys t) xs b in
     subst IsArg (sym s.is) (starred s.has s.other)
 
-entry_of : (xs : Items) → Meant (rule Table.Row.Entry) xs → IsEntry xs
+entry_of : (xs : Items) → Meant (production Table.Nonterminal.Entry) xs → IsEntry xs
 entry_of xs b =
     let c = after_sign (codes ":") IsTest b.back b.other in
     entry c.x (b.is ∙ ap (join b.front) c.is) b.one c.has c.other
 
-clauses_with : (m : Items) → Repeated (Meant (row Table.Row.For or word (codes "if") then row Table.Row.Binary)) m → AreClauses m
+clauses_with : (m : Items) → Repeated (Meant (the Table.Nonterminal.For or word (codes "if") then the Table.Nonterminal.Binary)) m → AreClauses m
 clauses_with _ stop = no_clause
 clauses_with _ (step {xs} {ys} (inl f) more) = for_clause (f ys (clauses_with ys more))
 clauses_with _ (step {xs} {ys} (inr b) more) =
     let i = after_word (codes "if") IsChain xs b in
     if_clause i.x (ap (λ zs. join zs ys) i.is) i.has i.other (clauses_with ys more)
 
-targets_with : (a : Items) → IsPrimary a → (m : Items) → Repeated (Meant (sign (codes ",") then row Table.Row.Primary)) m → AreTargets (join a m)
+targets_with : (a : Items) → IsPrimary a → (m : Items) → Repeated (Meant (sign (codes ",") then the Table.Nonterminal.Primary)) m → AreTargets (join a m)
 targets_with a p _ stop = subst AreTargets (sym (join_empty a)) (last_target p)
 targets_with a p _ (step {xs} {ys} s more) =
     let c = after_sign (codes ",") IsPrimary xs s in
     target c.x (ap (join a) (ap (λ zs. join zs ys) c.is)) p c.has (targets_with c.rest c.other ys more)
 
-for_of : (xs : Items) → Meant (rule Table.Row.For) xs → Means Table.Row.For xs
+for_of : (xs : Items) → Meant (production Table.Nonterminal.For) xs → Means Table.Nonterminal.For xs
 for_of xs b ys more =
-    let f = after_word (codes "for") (Meant (row Table.Row.Primary then many (sign (codes ",") then row Table.Row.Primary) then word (codes "in") then row Table.Row.Binary)) xs b in
+    let f = after_word (codes "for") (Meant (the Table.Nonterminal.Primary then many (sign (codes ",") then the Table.Nonterminal.Primary) then word (codes "in") then the Table.Nonterminal.Binary)) xs b in
     let t = f.other.other in
     let i = after_word (codes "in") IsChain t.back t.other in
     let inner : join f.rest ys ≡ join (join f.other.front t.front) (item i.x (join i.rest ys)) =
@@ -357,24 +357,24 @@ for_of xs b ys more =
     ∙ join_assoc (join f.other.front t.front) (item i.x i.rest) ys in (
     for f.x i.x (ap (λ zs. join zs ys) f.is ∙ ap (item f.x) inner) f.has (targets_with f.other.front f.other.one t.front t.one) i.has i.other more)
 
-optional_of : (xs : Items) → Meant (maybe (row Table.Row.Test)) xs → IsOptional xs
+optional_of : (xs : Items) → Meant (maybe (the Table.Nonterminal.Test)) xs → IsOptional xs
 optional_of xs (inl e) = subst IsOptional (sym e) nothing
 optional_of xs (inr t) = some t
 
-range_with : (xs a b : Items) → xs ≡ join a b → IsOptional a → Meant (maybe (sign (codes ":") then maybe (row Table.Row.Test))) b → IsRange xs
+range_with : (xs a b : Items) → xs ≡ join a b → IsOptional a → Meant (maybe (sign (codes ":") then maybe (the Table.Nonterminal.Test))) b → IsRange xs
 range_with xs a b is o (inl e) = upper (subst IsOptional (ended xs a b is e) o)
 range_with xs a b is o (inr s) =
-    let c = after_sign (codes ":") (Meant (maybe (row Table.Row.Test))) b s in
+    let c = after_sign (codes ":") (Meant (maybe (the Table.Nonterminal.Test))) b s in
     stepped c.x (is ∙ ap (join a) c.is) o c.has (optional_of c.rest c.other)
 
-subscript_of : (xs : Items) → Meant (rule Table.Row.Subscript) xs → IsIndex xs
+subscript_of : (xs : Items) → Meant (production Table.Nonterminal.Subscript) xs → IsIndex xs
 subscript_of xs (inl t) = at t
 subscript_of xs (inr b) =
-    let c = after_sign (codes ":") (Meant (maybe (row Table.Row.Test) then maybe (sign (codes ":") then maybe (row Table.Row.Test)))) b.back b.other in
+    let c = after_sign (codes ":") (Meant (maybe (the Table.Nonterminal.Test) then maybe (sign (codes ":") then maybe (the Table.Nonterminal.Test)))) b.back b.other in
     let r = c.other in
     slice c.x (b.is ∙ ap (join b.front) c.is) (optional_of b.front b.one) c.has (range_with c.rest r.front r.back r.is (optional_of r.front r.one) r.other)
 
-expression_with : (a : Items) → IsTest a → (m : Items) → Repeated (Meant (sign (codes ",") then row Table.Row.Test)) m → IsExpr (join a m)
+expression_with : (a : Items) → IsTest a → (m : Items) → Repeated (Meant (sign (codes ",") then the Table.Nonterminal.Test)) m → IsExpr (join a m)
 expression_with a t _ stop = subst IsExpr (sym (join_empty a)) (last_test t)
 expression_with a t _ (step {xs} {ys} s more) =
     let c = after_sign (codes ",") IsTest xs s in
@@ -401,42 +401,42 @@ load_in w is (seg before ys beside segs) one_comma end ps qs e s more =
     let text = first_segment IsString s.xs ys (contents segs) qs cut (is_string s.xs s.has) in
     load is text (load_args_in segs (each_in IsLoadArg segs qs more (later_segments s.xs ys (contents segs) qs cut)))
 
-load_of : (xs : Items) → Meant (word (codes "load") then bracket Load (segment (any String) then each_segment Table.Row.LoadArgument)) xs → IsLoad xs
+load_of : (xs : Items) → Meant (word (codes "load") then bracket Load (segment (any String) then each_segment Table.Nonterminal.LoadArgument)) xs → IsLoad xs
 load_of xs b =
-    let w = headed IsLoadWord (Meant (word (codes "load"))) (Meant (bracket Load (segment (any String) then each_segment Table.Row.LoadArgument))) (λ ys t. tokens Keyword (codes "load" ∷ []) IsLoadWord (refl, tt) ys t) xs b in
+    let w = headed IsLoadWord (Meant (word (codes "load"))) (Meant (bracket Load (segment (any String) then each_segment Table.Nonterminal.LoadArgument))) (λ ys t. tokens Keyword (codes "load" ∷ []) IsLoadWord (refl, tt) ys t) xs b in
     let g = w.other in
     subst IsLoad (sym (w.is ∙ ap (item w.x) g.is)) (load_in w.x w.has g.segs g.one_comma g.end g.has.front g.has.back g.has.is g.has.one g.has.other)
 
 abbrev IsAssigning : Item → Type 0
 IsAssigning x = is_assignment (token_role x) ≡ true
 
-assigned_of : (xs : Items) → Meant (row Table.Row.Expression then assignment then row Table.Row.Expression) xs → IsStatement xs
+assigned_of : (xs : Items) → Meant (the Table.Nonterminal.Expression then assignment then the Table.Nonterminal.Expression) xs → IsStatement xs
 assigned_of xs b =
     let s = headed IsAssigning (Meant assignment) IsExpr (λ ys t. tokens OperatorToken (codes "=" ∷ augmented) IsAssigning (refl, (refl, (refl, (refl, (refl, (refl, (refl, (refl, (refl, (refl, (refl, (refl, tt)))))))))))) ys t) b.back b.other in
     assigned s.x (b.is ∙ ap (join b.front) s.is) b.one s.has s.other
 
-statement_of : (xs : Items) → Meant (rule Table.Row.Statement) xs → IsStatement xs
+statement_of : (xs : Items) → Meant (production Table.Nonterminal.Statement) xs → IsStatement xs
 statement_of xs (inl e) = subst IsStatement (sym e) comments
 statement_of xs (inr (inl e)) = expression e
 statement_of xs (inr (inr (inl b))) = assigned_of xs b
 statement_of xs (inr (inr (inr b))) = load_statement (load_of xs b)
 
-row_means : (r : Row) (xs : Items) → Meant (rule r) xs → Means r xs
-row_means Table.Row.Statement xs m = statement_of xs m
-row_means Table.Row.LoadArgument xs m = load_arg_with xs m.front m.back m.is m.one (is_string m.back m.other)
-row_means Table.Row.Expression xs m = subst IsExpr (sym m.is) (expression_with m.front m.one m.back m.other)
-row_means Table.Row.Test xs m = test_with xs m.front m.back m.is m.one m.other
-row_means Table.Row.Binary xs m = subst IsChain (sym m.is) (chain_with m.front m.one m.back m.other)
-row_means Table.Row.Unary xs m = subst IsTerm (sym m.is) (term_with m.front m.one m.back m.other)
-row_means Table.Row.Primary xs m = primary_of xs m
-row_means Table.Row.Operand xs m = operand_of xs m
-row_means Table.Row.Suffix xs m = suffix_of xs m
-row_means Table.Row.Bracketed xs m = bracketed_of xs m
-row_means Table.Row.Argument xs m = argument_of xs m
-row_means Table.Row.Entry xs m = entry_of xs m
-row_means Table.Row.Clauses xs m = subst IsFor (sym m.is) (m.one m.back (clauses_with m.back m.other))
-row_means Table.Row.For xs m = for_of xs m
-row_means Table.Row.Subscript xs m = subscript_of xs m
+row_means : (r : Nonterminal) (xs : Items) → Meant (production r) xs → Means r xs
+row_means Table.Nonterminal.Statement xs m = statement_of xs m
+row_means Table.Nonterminal.LoadArgument xs m = load_arg_with xs m.front m.back m.is m.one (is_string m.back m.other)
+row_means Table.Nonterminal.Expression xs m = subst IsExpr (sym m.is) (expression_with m.front m.one m.back m.other)
+row_means Table.Nonterminal.Test xs m = test_with xs m.front m.back m.is m.one m.other
+row_means Table.Nonterminal.Binary xs m = subst IsChain (sym m.is) (chain_with m.front m.one m.back m.other)
+row_means Table.Nonterminal.Unary xs m = subst IsTerm (sym m.is) (term_with m.front m.one m.back m.other)
+row_means Table.Nonterminal.Primary xs m = primary_of xs m
+row_means Table.Nonterminal.Operand xs m = operand_of xs m
+row_means Table.Nonterminal.Suffix xs m = suffix_of xs m
+row_means Table.Nonterminal.Bracketed xs m = bracketed_of xs m
+row_means Table.Nonterminal.Argument xs m = argument_of xs m
+row_means Table.Nonterminal.Entry xs m = entry_of xs m
+row_means Table.Nonterminal.Clauses xs m = subst IsFor (sym m.is) (m.one m.back (clauses_with m.back m.other))
+row_means Table.Nonterminal.For xs m = for_of xs m
+row_means Table.Nonterminal.Subscript xs m = subscript_of xs m
 
 -- nodes that are two lists of parts, one after the other
 record Split (xs : Items) (ps qs : List Part) : Type 0 where
@@ -490,13 +490,13 @@ meant (of_texts {k} {texts} {text} h) = (tt, λ xs e. record { x = leaf k text; 
 meant (in_bracket {k} {f} {segs} {one_comma} {end} h) =
     (tt, λ xs e. record { segs = segs; one_comma = one_comma; end = end; is = one_node (group k segs one_comma end) xs e; has = (meant h).0 })
 meant (in_segment {f} {xs} h) = (record { xs = xs; is = refl; has = (meant h).1 xs refl }, λ ys e. tt)
-meant (by_rule {r} h) = (tt, λ xs e. row_means r xs ((meant h).1 xs e))
-meant (both {f} {g} {ps} {qs} h k) = (
+meant (by_production {r} h) = (tt, λ xs e. row_means r xs ((meant h).1 xs e))
+meant (in_turn {f} {g} {ps} {qs} h k) = (
   record { front = ps; back = qs; is = refl; one = (meant h).0; other = (meant k).0 },
   λ xs e. let s = split ps qs xs e in record { front = s.front; back = s.back; is = s.is; one = (meant h).1 s.front s.front_is; other = (meant k).1 s.back s.back_is },
 )
-meant (this h) = (tt, λ xs e. inl ((meant h).1 xs e))
-meant (that h) = (tt, λ xs e. inr ((meant h).1 xs e))
+meant (or_left h) = (tt, λ xs e. inl ((meant h).1 xs e))
+meant (or_right h) = (tt, λ xs e. inr ((meant h).1 xs e))
 meant no_more = (stop_of, λ xs e. subst (Repeated _) (sym (no_nodes xs e)) stop)
 meant (again {f} {ps} {qs} h k) = (
   step_of (meant h).0 (meant k).0,
@@ -506,5 +506,5 @@ meant (again {f} {ps} {qs} h k) = (
 pub statement_produced : (xs : Items) → Table.IsStatement xs → IsStatement xs
 statement_produced xs h = (meant h).1 xs refl
 
-pub argument_produced : (xs : Items) → Is Table.Row.Argument xs → IsArg xs
+pub argument_produced : (xs : Items) → AreOf Table.Nonterminal.Argument xs → IsArg xs
 argument_produced xs h = (meant h).1 xs refl

@@ -10,43 +10,43 @@ use Rattle.bz_token.specs.Places.{Placed}
 use Rattle.bz_tree.specs.Tree.{Item, Segment}
 use Rattle.bz_tree.specs.Kinds.{mark_of, is_one, group_kind}
 use Rattle.bz_tree.specs.private.KindSteps.{same_shape}
-use Rattle.bz_tree.specs.Owners.{Own, node, comma, comment, Inside}
+use Rattle.bz_tree.specs.Owners.{Inner, node, comma, comment, Inside}
 use Rattle.bz_tree.specs.Brackets.{own_items, preceding, group_with}
 use Rattle.bz_tree.specs.Elements.{has_for}
 use Rattle.bz_tree.specs.Elements.{own_of}
 use Rattle.bz_tree.specs.Elements.{segment_with}
 use Rattle.bz_tree.specs.private.Steps.{Walked, at_start, after_node, after_comma, after_comment, done}
 
-abbrev pub after : Own → Walked → Option Walked
+abbrev pub after : Inner → Walked → Option Walked
 after (node line x) w = Some (after_node line x w)
 after (comma t) w = after_comma t.line w
 after (comment line text) w = Some (after_comment line text w)
 
-abbrev pub walk : Walked → List Own → Option Inside
+abbrev pub walk : Walked → List Inner → Option Inside
 walk w [] = Some (done w)
 walk w (x ∷ xs) = option_and_then (λ v. walk v xs) (after x w)
 
 -- the inside of a bracket, unless a segment is empty
-abbrev pub content : Bool → List Own → Option Inside
+abbrev pub content : Bool → List Inner → Option Inside
 content one owns = walk at_start (own_items one owns)
 
 -- The stack of open brackets.
 pub record Level : Type 0 where
   pub shape : Option Shape
-  pub owns : List Own
+  pub owns : List Inner
   pub at : Preceding
 
 abbrev pub Levels : Type 0
 Levels = Level × List Level
 
-abbrev pub with_own : Level → Own → Level
+abbrev pub with_own : Level → Inner → Level
 with_own l own = record { shape = l.shape; owns = l.owns ++ own ∷ []; at = preceding l.at own }
 
 abbrev pub new_level : Option Shape → Level
 new_level shape = record { shape = shape; owns = []; at = Other }
 
 -- the group of a bracket that is closed
-abbrev pub closed : Shape → Preceding → List Own → Option Item
+abbrev pub closed : Shape → Preceding → List Inner → Option Item
 closed shape b owns = let kind = group_kind shape b (has_for owns) in option_map (group_with kind) (content (is_one kind) owns)
 
 abbrev pub next_at : Mark → Placed → Level → List Level → Option Levels
@@ -60,7 +60,7 @@ next_at m t top outer = Some (with_own top (own_of m t), outer)
 abbrev pub next : Placed → Levels → Option Levels
 next t ls = next_at (mark_of t) t ls.0 ls.1
 
-abbrev pub finish : Option Shape → List Own → List Level → Option Segment
+abbrev pub finish : Option Shape → List Inner → List Level → Option Segment
 finish None owns [] = option_map segment_with (content true owns)
 finish _ owns outer = None
 

@@ -9,7 +9,7 @@ use Rattle.bz_token.specs.Places.{Placed}
 use Rattle.bz_tree.specs.Tree.{Item, Segment, Statement}
 use Rattle.bz_tree.specs.Kinds.{mark_of, group_kind, is_one}
 use Rattle.bz_tree.specs.private.KindSteps.{same_shape}
-use Rattle.bz_tree.specs.Owners.{Own, node}
+use Rattle.bz_tree.specs.Owners.{Inner, node}
 use Rattle.bz_tree.specs.Cells.{inside}
 use Rattle.bz_tree.specs.Brackets.{group_with, own_items, preceding, is_line, without_lines}
 use Rattle.bz_tree.specs.Elements.{has_for}
@@ -23,11 +23,11 @@ use Rattle.bz_tree.proofs.Trees.ByOwns.{Level, Levels, with_own, new_level, clos
 use Rattle.bz_tree.proofs.Trees.OneBracket.{inside_found, nodes_alone}
 use Rattle.bz_tree.proofs.Trees.Nested.{tree_of}
 
-abbrev in_level : Option Shape → List Own → Preceding → Level
+abbrev in_level : Option Shape → List Inner → Preceding → Level
 in_level shape owns at = record { shape = shape; owns = owns; at = at }
 
 -- what a bracket may stand after, after these
-abbrev pub after_all : Preceding → List Own → Preceding
+abbrev pub after_all : Preceding → List Inner → Preceding
 after_all b [] = b
 after_all b (x ∷ xs) = after_all (preceding b x) xs
 
@@ -40,12 +40,12 @@ single_step va vb vc vd ve = grind arith
 abbrev rest_run : List Placed → Option Levels → Option Segment
 rest_run ts o = option_and_then (λ ls. run ls.0 ls.1 ts) o
 
-close_step : (s : Shape) (t : Placed) (owns : List Own) (at : Preceding) (below : Level) (outer : List Level) (g : Item) → closed s below.at owns ≡ Some g
+close_step : (s : Shape) (t : Placed) (owns : List Inner) (at : Preceding) (below : Level) (outer : List Level) (g : Item) → closed s below.at owns ≡ Some g
     → next_at (Close s) t (in_level (Some s) owns at) (below ∷ outer) ≡ Some (with_own below (node t.line g), outer)
 close_step s t owns at below outer g is = rw (same_itself s, is) refl
 
 mutual
-  pub elem_run : (x : Elem) (b : Preceding) → IsWell b x → (shape : Option Shape) (owns : List Own) (outer : List Level) (ts : List Placed)
+  pub elem_run : (x : Elem) (b : Preceding) → IsWell b x → (shape : Option Shape) (owns : List Inner) (outer : List Level) (ts : List Placed)
       → run (in_level shape owns b) outer (elem_tokens x ++ ts) ≡ run (with_own (in_level shape owns b) (elem_own b x)) outer ts
   elem_run (single t) b well shape owns outer ts = ap (rest_run ts) (single_step (mark_of t) t well (in_level shape owns b) outer)
   elem_run (bracket s opening inner closing) b well shape owns outer ts =
@@ -60,7 +60,7 @@ mutual
       rw well.1 (ap (rest_run ts) (close_step s closing (elems_own Other inner) (after_all Other (elems_own Other inner)) below outer _ found)) in
       first ∙ rw (append_assoc (elems_tokens inner) (closing ∷ []) ts) (run_inner ∙ last)
 
-  pub elems_run : (xs : Elems) (b : Preceding) → AreWell b xs → (shape : Option Shape) (owns : List Own) (outer : List Level) (ts : List Placed)
+  pub elems_run : (xs : Elems) (b : Preceding) → AreWell b xs → (shape : Option Shape) (owns : List Inner) (outer : List Level) (ts : List Placed)
       → run (in_level shape owns b) outer (elems_tokens xs ++ ts) ≡ run (in_level shape (owns ++ elems_own b xs) (after_all b (elems_own b xs))) outer ts
   elems_run no_elems b well shape owns outer ts = rw (append-nil owns) refl
   elems_run (elem x xs) b well shape owns outer ts =
@@ -88,7 +88,7 @@ without [] = λ top outer. refl
 without (t ∷ ts) = λ top outer. mark_same (mark_of t) t refl ts (without_lines ts) (without ts) top outer
 
 -- at depth 0 no segment is empty
-pub top_found : (os : List Own) → option_map segment_with (content true os) ≡ Some (segment_of os)
+pub top_found : (os : List Inner) → option_map segment_with (content true os) ≡ Some (segment_of os)
 top_found os =
     let is : walk at_start (own_items true os) ≡ Some (inside (own_items true os)) = inside_found (own_items true os) ∙ ap (λ b. cond b (Some (inside (own_items true os))) None) (nodes_alone false os) in
     ap (option_map segment_with) is

@@ -13,7 +13,7 @@ use Rattle.bz_token.specs.Places.{Placed}
 use Rattle.bz_tree.specs.Tree.{Item, Segment}
 use Rattle.bz_tree.specs.Kinds.{mark_of, group_kind, is_one}
 use Rattle.bz_tree.specs.private.KindSteps.{own_item, same_shape}
-use Rattle.bz_tree.specs.Owners.{Own, node, comma, comment}
+use Rattle.bz_tree.specs.Owners.{Inner, node, comma, comment}
 use Rattle.bz_tree.specs.Cells.{Last, end_of_comma, is_on}
 use Rattle.bz_tree.specs.Brackets.{own_items, preceding, is_for_item, group_with}
 use Rattle.bz_tree.specs.Elements.{has_for}
@@ -26,7 +26,7 @@ use Rattle.bz_tree.proofs.Trees.Sound.{some_injective, same_shape_is}
 use Rattle.bz_token.specs.Common.{is_filled}
 
 -- the steps of a walk, without its end
-abbrev steps : Walked → List Own → Option Walked
+abbrev steps : Walked → List Inner → Option Walked
 steps w [] = Some w
 steps w (o ∷ os) = option_and_then (λ v. steps v os) (after o w)
 
@@ -34,7 +34,7 @@ same_some : {A : Type 0} (o : Option A) → option_and_then (λ x. Some x) o ≡
 same_some None = refl
 same_some (Some x) = refl
 
-walk_is_steps : (os : List Own) (w : Walked) → walk w os ≡ option_map done (steps w os)
+walk_is_steps : (os : List Inner) (w : Walked) → walk w os ≡ option_map done (steps w os)
 walk_is_steps [] w = refl
 walk_is_steps (o ∷ os) w = at_next (λ v. walk_is_steps os v) (after o w)
   where
@@ -42,7 +42,7 @@ walk_is_steps (o ∷ os) w = at_next (λ v. walk_is_steps os v) (after o w)
     at_next more None = refl
     at_next more (Some v) = more v
 
-steps_push : (os : List Own) (w : Walked) (o : Own) → steps w (os ++ o ∷ []) ≡ option_and_then (after o) (steps w os)
+steps_push : (os : List Inner) (w : Walked) (o : Inner) → steps w (os ++ o ∷ []) ≡ option_and_then (after o) (steps w os)
 steps_push [] w o = same_some (after o w)
 steps_push (p ∷ os) w o = at_next (λ v. steps_push os v o) (after p w)
   where
@@ -51,32 +51,32 @@ steps_push (p ∷ os) w o = at_next (λ v. steps_push os v o) (after p w)
     at_next more None = refl
     at_next more (Some v) = more v
 
-items_push : (one : Bool) (os : List Own) (o : Own) → own_items one (os ++ o ∷ []) ≡ own_items one os ++ own_item one o ∷ []
+items_push : (one : Bool) (os : List Inner) (o : Inner) → own_items one (os ++ o ∷ []) ≡ own_items one os ++ own_item one o ∷ []
 items_push one [] o = refl
 items_push one (p ∷ os) o = ap (λ ps. own_item one p ∷ ps) (items_push one os o)
 
-abbrev walked_by : Bool → List Own → Option Walked
+abbrev walked_by : Bool → List Inner → Option Walked
 walked_by one owns = steps at_start (own_items one owns)
 
-after_item : (one : Bool) (o : Own) (p : Option Walked) → option_and_then (after (own_item one o)) p ≡ after_own one o p
+after_item : (one : Bool) (o : Inner) (p : Option Walked) → option_and_then (after (own_item one o)) p ≡ after_own one o p
 after_item va vb vc = grind arith
 
-walked_push : (one : Bool) (os : List Own) (o : Own) → walked_by one (os ++ o ∷ []) ≡ after_own one o (walked_by one os)
+walked_push : (one : Bool) (os : List Inner) (o : Inner) → walked_by one (os ++ o ∷ []) ≡ after_own one o (walked_by one os)
 walked_push one os o = ap (steps at_start) (items_push one os o) ∙ (steps_push (own_items one os) at_start (own_item one o) ∙ after_item one o (walked_by one os))
 
-abbrev has_comma : List Own → Bool
+abbrev has_comma : List Inner → Bool
 has_comma [] = false
 has_comma (node line x ∷ os) = has_comma os
 has_comma (comma t ∷ os) = true
 has_comma (comment line text ∷ os) = has_comma os
 
-same_items : (os : List Own) → has_comma os ≡ false → own_items true os ≡ own_items false os
+same_items : (os : List Inner) → has_comma os ≡ false → own_items true os ≡ own_items false os
 same_items [] none = refl
 same_items (node line x ∷ os) none = ap (λ ps. node line x ∷ ps) (same_items os none)
 same_items (comma t ∷ os) none = absurd (false≢true (sym none))
 same_items (comment line text ∷ os) none = ap (λ ps. comment line text ∷ ps) (same_items os none)
 
-for_push : (os : List Own) (o : Own) → has_for (os ++ o ∷ []) ≡ has_for os || (not (has_comma os) && is_for o)
+for_push : (os : List Inner) (o : Inner) → has_for (os ++ o ∷ []) ≡ has_for os || (not (has_comma os) && is_for o)
 for_push [] (node line x) = or-false (is_for_item x)
 for_push [] (comma t) = refl
 for_push [] (comment line text) = refl
@@ -99,7 +99,7 @@ filled_commented : (last : Last) (on : Bool) (text : List ℕ) (w : Walked) → 
 filled_commented va vb vc vd = grind arith
 
 -- whether a comma was met
-not_first : (os : List Own) (w : Walked) → is_in_first (steps w (own_items false os)) ≡ not (is_filled w.segs || has_comma os)
+not_first : (os : List Inner) (w : Walked) → is_in_first (steps w (own_items false os)) ≡ not (is_filled w.segs || has_comma os)
 not_first [] w = ap not (sym (or-false (is_filled w.segs)))
 not_first (node line x ∷ os) w = not_first os (after_node line x w)
 not_first (comment line text ∷ os) w = not_first os (after_comment line text w) ∙ ap (λ b. not (b || has_comma os)) (filled_commented w.last (is_on w.last line) text w)
@@ -151,12 +151,12 @@ same_either true x y e = e
 same_either false x y e = refl
 
 -- a bracket that `for` does not change
-stays : (k : Option GroupKind) → as_comprehension k ≡ k → (owns : List Own) (at : Preceding) (own : Own)
+stays : (k : Option GroupKind) → as_comprehension k ≡ k → (owns : List Inner) (at : Preceding) (own : Inner)
     → with_own (leveled k (walked_by (has_one k) owns) at) own ≡ leveled k (walked_by (has_one k) (owns ++ own ∷ [])) (preceding at own)
 stays k e owns at own =
     level_is _ k _ (walked_by (has_one k) (owns ++ own ∷ [])) (preceding at own) (same_either (is_for own && is_in_first (walked_by (has_one k) owns)) k (as_comprehension k) e) (sym (walked_push (has_one k) owns own))
 
-after_for : (own : Own) → is_for own ≡ true → (p : Option Walked) → after_own false own p ≡ after_own true own p
+after_for : (own : Inner) → is_for own ≡ true → (p : Option Walked) → after_own false own p ≡ after_own true own p
 after_for va vb vc = grind arith
 
 -- a bracket that `for` makes a comprehension
@@ -164,7 +164,7 @@ abbrev pick : GroupKind → GroupKind → Bool → GroupKind
 pick k0 k1 h = cond h k1 k0
 
 becomes : (k0 k1 : GroupKind) → as_comprehension (Some k0) ≡ Some k1 → as_comprehension (Some k1) ≡ Some k1 → is_one k0 ≡ false → is_one k1 ≡ true
-    → (owns : List Own) (at : Preceding) (own : Own) (h c f : Bool) → has_comma owns ≡ c → is_for own ≡ f
+    → (owns : List Inner) (at : Preceding) (own : Inner) (h c f : Bool) → has_comma owns ≡ c → is_for own ≡ f
     → with_own (leveled (Some (pick k0 k1 h)) (walked_by (is_one (pick k0 k1 h)) owns) at) own
     ≡ leveled (Some (pick k0 k1 (h || (not c && f)))) (walked_by (is_one (pick k0 k1 (h || (not c && f)))) (owns ++ own ∷ [])) (preceding at own)
 becomes k0 k1 to one none some owns at own true c f ec ef = stays (Some k1) one owns at own
@@ -191,14 +191,14 @@ becomes k0 k1 to one none some owns at own false c f ec ef = at_flags c f ec ef
         ∙ (sym (walked_push true owns own) ∙ ap (λ o. walked_by o (owns ++ own ∷ [])) (sym some)))))
 
 becomes_one : (k0 k1 : GroupKind) → as_comprehension (Some k0) ≡ Some k1 → as_comprehension (Some k1) ≡ Some k1 → is_one k0 ≡ false → is_one k1 ≡ true
-    → (owns : List Own) (at : Preceding) (own : Own)
+    → (owns : List Inner) (at : Preceding) (own : Inner)
     → with_own (leveled (Some (pick k0 k1 (has_for owns))) (walked_by (is_one (pick k0 k1 (has_for owns))) owns) at) own
     ≡ leveled (Some (pick k0 k1 (has_for (owns ++ own ∷ [])))) (walked_by (is_one (pick k0 k1 (has_for (owns ++ own ∷ [])))) (owns ++ own ∷ [])) (preceding at own)
 becomes_one k0 k1 to one none some owns at own =
     becomes k0 k1 to one none some owns at own (has_for owns) (has_comma owns) (is_for own) refl refl
     ∙ ap (λ h. leveled (Some (pick k0 k1 h)) (walked_by (is_one (pick k0 k1 h)) (owns ++ own ∷ [])) (preceding at own)) (sym (for_push owns own))
 
-own_same : (o : Option Shape) (b : Preceding) (owns : List Own) (at : Preceding) (own : Own)
+own_same : (o : Option Shape) (b : Preceding) (owns : List Inner) (at : Preceding) (own : Inner)
     → with_own (image b (record { shape = o; owns = owns; at = at })) own ≡ image b (record { shape = o; owns = owns ++ own ∷ []; at = preceding at own })
 own_same None b owns at own = stays None refl owns at own
 own_same (Some Round) Operand owns at own = stays (kind_by (Some Round) Operand false) refl owns at own
@@ -215,11 +215,11 @@ image_of ls = (image (before_of ls.1) ls.0, images ls.1)
 shapes_stay : (o : Option Shape) (b : Preceding) (h : Bool) → option_map shape_of (kind_by o b h) ≡ o
 shapes_stay va vb vc = grind arith
 
-closed_same : (k : GroupKind) (owns : List Own) → closed (Some k) (walked_by (is_one k) owns) ≡ option_map (group_with k) (content (is_one k) owns)
+closed_same : (k : GroupKind) (owns : List Inner) → closed (Some k) (walked_by (is_one k) owns) ≡ option_map (group_with k) (content (is_one k) owns)
 closed_same k owns = ap (option_map (group_with k)) (sym (walk_is_steps (own_items (is_one k) owns) at_start))
 
 -- a step, here and there
-close_same : (s : Shape) (t : Placed) (o : Option Shape) (owns : List Own) (at : Preceding) (below : by_owns.Level) (outer : List by_owns.Level)
+close_same : (s : Shape) (t : Placed) (o : Option Shape) (owns : List Inner) (at : Preceding) (below : by_owns.Level) (outer : List by_owns.Level)
     → next_at (Close s) t (image below.at (record { shape = o; owns = owns; at = at })) (images (below ∷ outer))
     ≡ option_map image_of (by_owns.next_at (Close s) t (record { shape = o; owns = owns; at = at }) (below ∷ outer))
 close_same s t None owns at below outer = refl
@@ -246,7 +246,7 @@ next_same (Close s) t top [] = refl
 next_same (Close s) t top (below ∷ outer) = close_same s t top.shape top.owns top.at below outer
 next_same m t top outer = ap (λ (l : Level). Some (l, images outer)) (own_same top.shape (before_of outer) top.owns top.at (own_of m t))
 
-finish_same : (o : Option Shape) (b : Preceding) (owns : List Own) (outer : List by_owns.Level) → finish (kind_by o b (has_for owns)) (walked_by (has_one (kind_by o b (has_for owns))) owns) (images outer) ≡ by_owns.finish o owns outer
+finish_same : (o : Option Shape) (b : Preceding) (owns : List Inner) (outer : List by_owns.Level) → finish (kind_by o b (has_for owns)) (walked_by (has_one (kind_by o b (has_for owns))) owns) (images outer) ≡ by_owns.finish o owns outer
 finish_same None b owns [] = ap (option_map segment_with) (sym (walk_is_steps (own_items true owns) at_start))
 finish_same None b owns (l ∷ outer) = refl
 finish_same (Some s) b owns outer = refl

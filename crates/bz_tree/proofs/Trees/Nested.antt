@@ -9,8 +9,8 @@ use Rattle.bz_tree.specs.declared.tree.GroupKind.{GroupKind}
 use Rattle.bz_token.specs.Places.{Placed}
 use Rattle.bz_tree.specs.Tree.{Statement}
 use Rattle.bz_tree.specs.Kinds.{mark_of, group_kind, is_one}
-use Rattle.bz_tree.specs.Owners.{Own, node}
-use Rattle.bz_tree.specs.Cells.{no_empty}
+use Rattle.bz_tree.specs.Owners.{Inner, node}
+use Rattle.bz_tree.specs.Cells.{no_empty_cell}
 use Rattle.bz_tree.specs.Brackets.{alone, group_with, own_items, preceding, without_lines, IsGroup, AreNested}
 use Rattle.bz_tree.specs.Brackets as nested
 use Rattle.bz_tree.specs.Elements.{has_for, Elems, no_elems, elem, single, bracket, elem_tokens, elems_tokens, own_of, group_of, segment_with, segment_of, elem_own, elems_own, is_single, IsWell, AreWell, IsTreeOf}
@@ -21,14 +21,14 @@ use Rattle.bz_tree.proofs.Trees.Fors.{has_for_is}
 use Rattle.bz_tree.proofs.Trees.OneCell.{with_calls}
 
 -- a group and a segment, by the one definition of owners and by the other
-pub group_same : (kind : GroupKind) (owns : List Own) → nested.group_of kind owns ≡ group_of kind owns
+pub group_same : (kind : GroupKind) (owns : List Inner) → nested.group_of kind owns ≡ group_of kind owns
 group_same kind owns = ap (group_with kind) (inside_is (own_items (is_one kind) owns))
 
-pub segment_same : (owns : List Own) → statements.segment_of owns ≡ segment_of owns
+pub segment_same : (owns : List Inner) → statements.segment_of owns ≡ segment_of owns
 segment_same owns = with_calls owns ∙ ap segment_with (inside_is (own_items true owns))
 
 -- a tree with these tokens that gives this list
-record Tree (b : Preceding) (tokens : List Placed) (owns : List Own) : Type 0 where
+record Tree (b : Preceding) (tokens : List Placed) (owns : List Inner) : Type 0 where
   elems : Elems
   tokens_are : elems_tokens elems ≡ tokens
   well : AreWell b elems
@@ -37,11 +37,11 @@ record Tree (b : Preceding) (tokens : List Placed) (owns : List Own) : Type 0 wh
 alone_is : (m : Mark) (t : Placed) → is_single m ≡ true → alone m t ≡ Some (own_of m t)
 alone_is va vb vc = grind arith
 
-is_alone : (m : Mark) (t : Placed) (own : Own) → alone m t ≡ Some own → (is_single m ≡ true) × (own_of m t ≡ own)
+is_alone : (m : Mark) (t : Placed) (own : Inner) → alone m t ≡ Some own → (is_single m ≡ true) × (own_of m t ≡ own)
 is_alone va vb vc vd = grind arith
 
 -- a tree, by what is nested
-tree : {b : Preceding} {tokens : List Placed} {owns : List Own} → AreNested b tokens owns → Tree b tokens owns
+tree : {b : Preceding} {tokens : List Placed} {owns : List Inner} → AreNested b tokens owns → Tree b tokens owns
 tree nested.no_token = record { elems = no_elems; tokens_are = refl; well = tt; owns_are = refl }
 tree (nested.single {b} {t} {ts} {own} {owns} is more) =
     let a = is_alone (mark_of t) t own is in
@@ -61,7 +61,7 @@ tree (nested.bracket {b} {opening} {closing} {inner} {ts} {inside} {owns} {own} 
         record {
           elems = elem (bracket group.shape opening i.elems closing) rest.elems;
           tokens_are = ap (λ us. opening ∷ us) (append_assoc (elems_tokens i.elems) (closing ∷ []) (elems_tokens rest.elems) ∙ λ k. i.tokens_are k ++ closing ∷ rest.tokens_are k);
-          well = ((group.opens, group.closes, i.well, (λ k. no_empty false (own_items (is_one (kinds k)) (i.owns_are k))) ∙ sym (no_empty_is (own_items (is_one group.kind) inside)) ∙ group.some), subst (λ o. AreWell (preceding b o) rest.elems) (sym same) rest.well);
+          well = ((group.opens, group.closes, i.well, (λ k. no_empty_cell false (own_items (is_one (kinds k)) (i.owns_are k))) ∙ sym (no_empty_is (own_items (is_one group.kind) inside)) ∙ group.some), subst (λ o. AreWell (preceding b o) rest.elems) (sym same) rest.well);
           owns_are = λ k. same k ∷ (ap (λ o. elems_own (preceding b o) rest.elems) same ∙ rest.owns_are) k;
         }
 

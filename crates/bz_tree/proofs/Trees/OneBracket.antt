@@ -4,8 +4,8 @@ use Rattle.std.proofs.lemmas.Bool.{false≢true}
 use Rattle.std.proofs.Math.Bool.{and-false}
 use Rattle.bz_token.specs.Places.{Placed}
 use Rattle.bz_tree.specs.Tree.{Item, Segment}
-use Rattle.bz_tree.specs.Owners.{Own, node, comma, comment, Inside}
-use Rattle.bz_tree.specs.Cells.{Last, no_token, end_of_node, end_of_comma, no_empty, inside, Entry, a_node, a_comma, a_comment, first_cell, other_cells, same_line, later_lines, nodes_in, has_node, comments_in, above_last, beside_last, below_last, segments_from, end_from, has_trailing_comma, entries_of}
+use Rattle.bz_tree.specs.Owners.{Inner, node, comma, comment, Inside}
+use Rattle.bz_tree.specs.Cells.{Last, no_token, end_of_node, end_of_comma, no_empty_cell, inside, Entry, a_node, a_comma, a_comment, first_cell, other_cells, same_line, later_lines, nodes_in, has_node, comments_in, above_last, beside_last, below_last, segments_from, end_from, has_trailing_comma, entries_of}
 use Rattle.bz_tree.specs.Brackets.{own_items}
 use Rattle.bz_tree.specs.Comments.{beside as texts_of}
 use Rattle.bz_tree.specs.Statement.{as_rule_call}
@@ -171,8 +171,8 @@ state segs b cell last = record { segs = segs; before = above_last cell; nodes =
 abbrev found : List Segment → Bool → List Entry → List (List Entry) → Inside
 found segs b cell cells = record { segs = segs ++ segments_from cell cells; trailing = trails b cell cells; end = end_from cell cells }
 
-abbrev whole : List Segment → Bool → List Entry → List Entry → List Own → Option Inside
-whole segs b cell es os = cond (no_empty (has_node cell) os) (Some (found segs b (cell ++ first_cell es) (other_cells es))) None
+abbrev whole : List Segment → Bool → List Entry → List Entry → List Inner → Option Inside
+whole segs b cell es os = cond (no_empty_cell (has_node cell) os) (Some (found segs b (cell ++ first_cell es) (other_cells es))) None
 
 -- directly after a comma: a comment on its line is that of the segment before
 abbrev with_beside : List (List ℕ) → List Segment → List Segment
@@ -182,8 +182,8 @@ with_beside (t ∷ ts) ss = to_last t ss
 abbrev found_after : List Segment → List Entry → List (List Entry) → Inside
 found_after segs cell cells = record { segs = with_beside (same_line cell) segs ++ segments_from (later_lines cell) cells; trailing = trails true (later_lines cell) cells; end = end_from (later_lines cell) cells }
 
-abbrev whole_after : List Segment → List Entry → List Own → Option Inside
-whole_after segs es os = cond (no_empty false os) (Some (found_after segs (first_cell es) (other_cells es))) None
+abbrev whole_after : List Segment → List Entry → List Inner → Option Inside
+whole_after segs es os = cond (no_empty_cell false os) (Some (found_after segs (first_cell es) (other_cells es))) None
 
 node_step : (line : ℕ) (x : Item) (segs : List Segment) (b : Bool) (cell : List Entry) (last : Last) → after_node line x (state segs b cell last) ≡ state segs b (cell ++ a_node x ∷ []) (end_of_node line)
 node_step line x segs b cell last =
@@ -200,13 +200,13 @@ node_step line x segs b cell last =
       trailing = sym trailing i;
     }
 
-node_on : (line : ℕ) (x : Item) (os : List Own) (segs : List Segment) (b : Bool) (cell : List Entry) (last : Last)
+node_on : (line : ℕ) (x : Item) (os : List Inner) (segs : List Segment) (b : Bool) (cell : List Entry) (last : Last)
     → walk (state segs b (cell ++ a_node x ∷ []) (end_of_node line)) os ≡ whole segs b (cell ++ a_node x ∷ []) (entries_of (end_of_node line) os) os
     → walk (state segs b cell last) (node line x ∷ os) ≡ whole segs b cell (a_node x ∷ entries_of (end_of_node line) os) (node line x ∷ os)
 node_on line x os segs b cell last more =
     let es = entries_of (end_of_node line) os in
     ap (λ w. walk w os) (node_step line x segs b cell last)
-    ∙ (more ∙ λ i. cond (no_empty (has_more cell x i) os) (Some (found segs b (append_assoc cell (a_node x ∷ []) (first_cell es) i) (other_cells es))) None)
+    ∙ (more ∙ λ i. cond (no_empty_cell (has_more cell x i) os) (Some (found segs b (append_assoc cell (a_node x ∷ []) (first_cell es) i) (other_cells es))) None)
 
 off_step : (text : List ℕ) (segs : List Segment) (b : Bool) (cell : List Entry) (last : Last) → commented no_token false text (state segs b cell last) ≡ state segs b (cell ++ a_comment false text ∷ []) no_token
 off_step text segs b cell last = λ i. record {
@@ -231,10 +231,10 @@ on_step x text segs b cell last = λ i. record {
   trailing = b && not (is_filled (nodes_same (cell ++ a_node x ∷ []) true text i));
 }
 
-comment_on : (on : Bool) (line : ℕ) (text : List ℕ) (os : List Own) (segs : List Segment) (b : Bool) (cell es : List Entry)
+comment_on : (on : Bool) (line : ℕ) (text : List ℕ) (os : List Inner) (segs : List Segment) (b : Bool) (cell es : List Entry)
     → whole segs b (cell ++ a_comment on text ∷ []) es os ≡ whole segs b cell (a_comment on text ∷ es) (comment line text ∷ os)
 comment_on on line text os segs b cell es =
-    λ i. cond (no_empty (has_same cell on text i) os) (Some (found segs b (append_assoc cell (a_comment on text ∷ []) (first_cell es) i) (other_cells es))) None
+    λ i. cond (no_empty_cell (has_same cell on text i) os) (Some (found segs b (append_assoc cell (a_comment on text ∷ []) (first_cell es) i) (other_cells es))) None
 
 -- a segment is done
 abbrev segment : List (List ℕ) → List Item → Option (List ℕ) → Segment
@@ -270,7 +270,7 @@ beside_push : (on : List (List ℕ)) (ss : List Segment) (s : Segment) → with_
 beside_push [] ss s = refl
 beside_push (t ∷ ts) ss s = to_last-push t ss s
 
-comma_step : (t : Placed) (os : List Own) (segs : List Segment) (b : Bool) (cell : List Entry) (last : Last)
+comma_step : (t : Placed) (os : List Inner) (segs : List Segment) (b : Bool) (cell : List Entry) (last : Last)
     → ((ss : List Segment) → walk (state ss true [] (end_of_comma t.line)) os ≡ whole_after ss (entries_of (end_of_comma t.line) os) os)
     → walk (state segs b cell last) (comma t ∷ os) ≡ whole segs b cell (a_comma ∷ entries_of (end_of_comma t.line) os) (comma t ∷ os)
 comma_step t os segs b cell last more = at_nodes (nodes_in cell) refl
@@ -288,18 +288,18 @@ comma_step t os segs b cell last more = at_nodes (nodes_in cell) refl
         let segs_are : with_beside on (segs ++ s ∷ []) ++ rest ≡ segs ++ made ∷ rest =
         ap (λ ss. ss ++ rest) (beside_push on segs s ∙ ap (λ r. segs ++ r ∷ []) (segment_is (above_last cell) (below_last cell) (x ∷ xs) (beside_last cell) on (short_beside cell) (short_line next))) ∙ append_assoc segs (made ∷ []) rest in
         rw (append-nil cell, e)
-        (more (segs ++ s ∷ []) ∙ λ i. cond (no_empty false os) (Some (record { segs = segs_are i; trailing = trails_off next cells i; end = end_from (later_lines next) cells })) None)
+        (more (segs ++ s ∷ []) ∙ λ i. cond (no_empty_cell false os) (Some (record { segs = segs_are i; trailing = trails_off next cells i; end = end_from (later_lines next) cells })) None)
 
 -- the walk from any place on: after a comment or at the start, after a node that ends on a line, after a comma on a line
 mutual
-  walk_on : (os : List Own) (segs : List Segment) (b : Bool) (cell : List Entry) → walk (state segs b cell no_token) os ≡ whole segs b cell (entries_of no_token os) os
+  walk_on : (os : List Inner) (segs : List Segment) (b : Bool) (cell : List Entry) → walk (state segs b cell no_token) os ≡ whole segs b cell (entries_of no_token os) os
   walk_on [] segs b cell = ap Some (end_step segs b cell no_token)
   walk_on (node line x ∷ os) segs b cell = node_on line x os segs b cell no_token (walk_node os segs b cell x line)
   walk_on (comma t ∷ os) segs b cell = comma_step t os segs b cell no_token (λ ss. walk_comma os ss t.line)
   walk_on (comment line text ∷ os) segs b cell =
       ap (λ w. walk w os) (off_step text segs b cell no_token) ∙ (walk_on os segs b (cell ++ a_comment false text ∷ []) ∙ comment_on false line text os segs b cell (entries_of no_token os))
 
-  walk_node : (os : List Own) (segs : List Segment) (b : Bool) (cell : List Entry) (x : Item) (end : ℕ)
+  walk_node : (os : List Inner) (segs : List Segment) (b : Bool) (cell : List Entry) (x : Item) (end : ℕ)
       → walk (state segs b (cell ++ a_node x ∷ []) (end_of_node end)) os ≡ whole segs b (cell ++ a_node x ∷ []) (entries_of (end_of_node end) os) os
   walk_node [] segs b cell x end = ap Some (end_step segs b (cell ++ a_node x ∷ []) (end_of_node end))
   walk_node (node line y ∷ os) segs b cell x end = node_on line y os segs b (cell ++ a_node x ∷ []) (end_of_node end) (walk_node os segs b (cell ++ a_node x ∷ []) y line)
@@ -314,7 +314,7 @@ mutual
       at_flag true more = ap (λ w. walk w os) (on_step x text segs b cell (end_of_node end)) ∙ (more (all ++ a_comment true text ∷ []) ∙ comment_on true line text os segs b all (entries_of no_token os))
       at_flag false more = ap (λ w. walk w os) (off_step text segs b all (end_of_node end)) ∙ (more (all ++ a_comment false text ∷ []) ∙ comment_on false line text os segs b all (entries_of no_token os))
 
-  walk_comma : (os : List Own) (segs : List Segment) (end : ℕ) → walk (state segs true [] (end_of_comma end)) os ≡ whole_after segs (entries_of (end_of_comma end) os) os
+  walk_comma : (os : List Inner) (segs : List Segment) (end : ℕ) → walk (state segs true [] (end_of_comma end)) os ≡ whole_after segs (entries_of (end_of_comma end) os) os
   walk_comma [] segs end = ap (λ ss. Some (record { segs = ss; trailing = true; end = [] })) (sym (append-nil segs))
   walk_comma (node line x ∷ os) segs end = node_on line x os segs true [] (end_of_comma end) (walk_node os segs true [] x line)
   walk_comma (comma t ∷ os) segs end = refl
@@ -325,14 +325,14 @@ mutual
       at_flag true more = more (to_last text segs) []
       at_flag false more = more segs (a_comment false text ∷ [])
 
-pub inside_found : (os : List Own) → walk at_start os ≡ cond (no_empty false os) (Some (inside os)) None
+pub inside_found : (os : List Inner) → walk at_start os ≡ cond (no_empty_cell false os) (Some (inside os)) None
 inside_found os =
     let cell = first_cell (entries_of no_token os) in
     let cells = other_cells (entries_of no_token os) in
-    walk_on os [] false [] ∙ λ i. cond (no_empty false os) (Some (record { segs = segments_from cell cells; trailing = trailed_is cell cells i; end = end_from cell cells })) None
+    walk_on os [] false [] ∙ λ i. cond (no_empty_cell false os) (Some (record { segs = segments_from cell cells; trailing = trailed_is cell cells i; end = end_from cell cells })) None
 
 -- where no comma stands, no segment is empty
-pub nodes_alone : (b : Bool) (os : List Own) → no_empty b (own_items true os) ≡ true
+pub nodes_alone : (b : Bool) (os : List Inner) → no_empty_cell b (own_items true os) ≡ true
 nodes_alone b [] = refl
 nodes_alone b (node line x ∷ os) = nodes_alone true os
 nodes_alone b (comma t ∷ os) = nodes_alone true os

@@ -8,37 +8,37 @@ use Rattle.bz_token.specs.Common.{first_of}
 use Rattle.bz_token.specs.Groups.{grouped_from}
 use Rattle.bz_token.specs.declared.token.Kind.TheVariants.{Identifier, Operator}
 use Rattle.bz_tree.specs.Tree.{Item, leaf, group, Segment, is_rule, is_rule_after}
-use Rattle.bz_tree.specs.Owners.{Own, node, comma, comment, nodes_of, texts_of, is_node, is_comma, beside, on_own_lines, cell_goes_on, cells, from_last_node, end_comments, cell_segment, inside}
+use Rattle.bz_tree.specs.Owners.{Inner, node, comma, comment, nodes_of, texts_of, is_node, is_comma, beside, on_own_lines, cell_goes_on, cells, from_last_node, end_comments, cell_segment, inside}
 use Rattle.bz_tree.specs.Brackets.{own_items}
 use Rattle.bz_tree.specs.Statement.{as_rule_call, segment_of}
 use Rattle.bz_tree.specs.Elements.{one_segment, rule_call, with_rule_call, segment_with}
 use Rattle.bz_tree.proofs.Trees.LastOf.{before_last_none}
 use Rattle.bz_tree.proofs.Trees.SameOwners.{open_takes, free_more, from_none, off_beside, no_nodes, comments_alone}
 
-no_comma : (owns : List Own) → list_any is_comma (own_items true owns) ≡ false
+no_comma : (owns : List Inner) → list_any is_comma (own_items true owns) ≡ false
 no_comma [] = refl
 no_comma (node line x ∷ owns) = no_comma owns
 no_comma (comma t ∷ owns) = no_comma owns
 no_comma (comment line text ∷ owns) = no_comma owns
 
-one_group : (g os : List Own) → list_any is_comma g ≡ false → list_any is_comma os ≡ false → grouped_from cell_goes_on g os ≡ (g ++ os) ∷ []
-one_group g [] free none = ap (λ (c : List Own). c ∷ []) (sym (append-nil g))
+one_group : (g os : List Inner) → list_any is_comma g ≡ false → list_any is_comma os ≡ false → grouped_from cell_goes_on g os ≡ (g ++ os) ∷ []
+one_group g [] free none = ap (λ (c : List Inner). c ∷ []) (sym (append-nil g))
 one_group g (x ∷ os) free none =
     let parts = or_parts (is_comma x) (list_any is_comma os) none in
-    open_takes g x os free ∙ one_group (g ++ x ∷ []) os (free_more g x free parts.0) parts.1 ∙ ap (λ (c : List Own). c ∷ []) (append_assoc g (x ∷ []) os)
+    open_takes g x os free ∙ one_group (g ++ x ∷ []) os (free_more g x free parts.0) parts.1 ∙ ap (λ (c : List Inner). c ∷ []) (append_assoc g (x ∷ []) os)
 
-one_cell : (x : Own) (os : List Own) → list_any is_comma (x ∷ os) ≡ false → cells (x ∷ os) ≡ (x ∷ os) ∷ []
+one_cell : (x : Inner) (os : List Inner) → list_any is_comma (x ∷ os) ≡ false → cells (x ∷ os) ≡ (x ∷ os) ∷ []
 one_cell x os none =
     let parts = or_parts (is_comma x) (list_any is_comma os) none in
     one_group (x ∷ []) os (ap (λ b. b || false) parts.0) parts.1
 
 -- a cell without nodes
-record Bare (os : List Own) : Type 0 where
+record Bare (os : List Inner) : Type 0 where
   before : (cell_segment os).before ≡ []
   nodes : flat_map nodes_of os ≡ []
   shown : beside None (from_last_node os) ≡ []
 
-bare : (os : List Own) → list_any is_comma os ≡ false → list_any is_node os ≡ false → Bare os
+bare : (os : List Inner) → list_any is_comma os ≡ false → list_any is_node os ≡ false → Bare os
 bare os free none =
     let front : before_last is_node os ≡ [] = before_last_none is_node os none in
     let shown : beside None (from_last_node os) ≡ [] = ap (beside None) (from_none os none) ∙ off_beside None os tt (comments_alone os none free) in
@@ -48,13 +48,13 @@ bare os free none =
       shown = shown;
     }
 
-abbrev whole : List Own → Segment
+abbrev whole : List Inner → Segment
 whole os = record { before = (cell_segment os).before ++ end_comments os; nodes = (cell_segment os).nodes; suffix = (cell_segment os).suffix }
 
-by_cell : (os : List Own) → list_any is_comma os ≡ false → one_segment (inside os).segs (inside os).end ≡ whole os
+by_cell : (os : List Inner) → list_any is_comma os ≡ false → one_segment (inside os).segs (inside os).end ≡ whole os
 by_cell [] free = refl
 by_cell (x ∷ os) free =
-    ap (λ (cs : List (List Own)). one_segment (map cell_segment (filter (list_any is_node) cs)) (flat_map end_comments cs)) (one_cell x os free)
+    ap (λ (cs : List (List Inner)). one_segment (map cell_segment (filter (list_any is_node) cs)) (flat_map end_comments cs)) (one_cell x os free)
     ∙ at_node (list_any is_node (x ∷ os)) refl
   where
     at_node : (b : Bool) → list_any is_node (x ∷ os) ≡ b → one_segment (map cell_segment (cond (list_any is_node (x ∷ os)) ((x ∷ os) ∷ []) [])) (end_comments (x ∷ os) ++ []) ≡ whole (x ∷ os)
@@ -91,5 +91,5 @@ calls_same s = λ i. record { before = s.before; nodes = nodes (is_rule s.nodes)
 abbrev calls : Segment → Segment
 calls s = record { before = s.before; nodes = cond (is_rule s.nodes) (map as_rule_call s.nodes) s.nodes; suffix = s.suffix }
 
-pub with_calls : (owns : List Own) → segment_of owns ≡ segment_with (inside (own_items true owns))
+pub with_calls : (owns : List Inner) → segment_of owns ≡ segment_with (inside (own_items true owns))
 with_calls owns = ap calls (sym (by_cell (own_items true owns) (no_comma owns))) ∙ calls_same (one_segment (inside (own_items true owns)).segs (inside (own_items true owns)).end)

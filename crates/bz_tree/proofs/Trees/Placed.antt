@@ -16,7 +16,7 @@ use Rattle.bz_tree.specs.Tree.{Item}
 use Rattle.bz_tree.specs.Kinds.{mark_of}
 use Rattle.bz_tree.specs.private.KindSteps.{same_shape}
 use Rattle.bz_tree.specs.View.{seg_view}
-use Rattle.bz_tree.specs.Owners.{Inside, Own, node, comma, comment}
+use Rattle.bz_tree.specs.Owners.{Inside, Inner, node, comma, comment}
 use Rattle.bz_tree.specs.Cells.{Last, no_token, end_of_node, end_of_comma, is_on}
 use Rattle.bz_tree.specs.Elements.{own_of}
 use Rattle.bz_tree.specs.Places.{Spelled, opens, closes, joined, group_spelling, seg_spelling, spelled, AreSpelled}
@@ -116,7 +116,7 @@ comment_flat (end_of_node end) false text w e = e
 comment_flat (end_of_comma end) true text w e = ap (to_last text) e
 comment_flat (end_of_comma end) false text w e = e
 
-top_flat : (w : Option Walked) (o : Own) → IsFlatAt None w → IsFlatAt None (after_own true o w)
+top_flat : (w : Option Walked) (o : Inner) → IsFlatAt None w → IsFlatAt None (after_own true o w)
 top_flat None (node line x) h = tt
 top_flat None (comma t) h = tt
 top_flat None (comment line text) h = tt
@@ -135,13 +135,13 @@ kind_flat Dict w = tt
 kind_flat ListComp w = tt
 kind_flat DictComp w = tt
 
-own_flat_at : (k : Option GroupKind) (w : Option Walked) (o : Own) (b : Bool) → IsFlatAt k w → IsFlatAt (cond b (as_comprehension k) k) (after_own (has_one k) o w)
+own_flat_at : (k : Option GroupKind) (w : Option Walked) (o : Inner) (b : Bool) → IsFlatAt k w → IsFlatAt (cond b (as_comprehension k) k) (after_own (has_one k) o w)
 own_flat_at None w o true h = top_flat w o h
 own_flat_at None w o false h = top_flat w o h
 own_flat_at (Some k) w o true h = kind_flat k (after_own (has_one (Some k)) o w)
 own_flat_at (Some k) w o false h = tt
 
-own_flat : (l : Level) (o : Own) → IsFlat l → IsFlat (with_own l o)
+own_flat : (l : Level) (o : Inner) → IsFlat l → IsFlat (with_own l o)
 own_flat l o h = own_flat_at l.kind l.walked o (is_for o && is_in_first l.walked) h
 
 abbrev FlatWhere : Option Levels → Type 0

@@ -9,8 +9,8 @@ use Rattle.bz_token.specs.Places.{Placed}
 use Rattle.bz_tree.specs.Tree.{Item, Segment, Statement}
 use Rattle.bz_tree.specs.Kinds.{mark_of, group_kind, is_one}
 use Rattle.bz_tree.specs.private.KindSteps.{same_shape}
-use Rattle.bz_tree.specs.Owners.{Own, node}
-use Rattle.bz_tree.specs.Cells.{inside, no_empty}
+use Rattle.bz_tree.specs.Owners.{Inner, node}
+use Rattle.bz_tree.specs.Cells.{inside, no_empty_cell}
 use Rattle.bz_tree.specs.Brackets.{group_with, own_items, preceding, is_line, without_lines}
 use Rattle.bz_tree.specs.Elements.{has_for}
 use Rattle.bz_tree.specs.Elements.{group_of}
@@ -26,7 +26,7 @@ abbrev elems_of : List Elem → Elems
 elems_of [] = no_elems
 elems_of (x ∷ xs) = elem x (elems_of xs)
 
-abbrev owns_of : List Elem → List Own
+abbrev owns_of : List Elem → List Inner
 owns_of xs = elems_own Other (elems_of xs)
 
 -- an open bracket, or the top: its opening bracket, and what stands in it so far
@@ -74,7 +74,7 @@ elems_own-push : (xs : List Elem) (b : Preceding) (x : Elem) → elems_own b (el
 elems_own-push [] b x = refl
 elems_own-push (y ∷ xs) b x = ap (λ os. elem_own b y ∷ os) (elems_own-push xs (preceding b (elem_own b y)) x)
 
-after_all-push : (os : List Own) (b : Preceding) (o : Own) → after_all b (os ++ o ∷ []) ≡ preceding (after_all b os) o
+after_all-push : (os : List Inner) (b : Preceding) (o : Inner) → after_all b (os ++ o ∷ []) ≡ preceding (after_all b os) o
 after_all-push [] b o = refl
 after_all-push (p ∷ os) b o = after_all-push os (preceding b p) o
 
@@ -123,18 +123,18 @@ pub same_shape_is : (o : Option Shape) (s : Shape) → same_shape o s ≡ true �
 same_shape_is va vb vc = grind arith
 
 -- a bracket that could be closed
-abbrev items_at : Shape → Preceding → List Own → List Own
+abbrev items_at : Shape → Preceding → List Inner → List Inner
 items_at s b owns = own_items (is_one (group_kind s b (has_for owns))) owns
 
-closed_is : (s : Shape) (b : Preceding) (owns : List Own) (g : Item) (e : Bool) → no_empty false (items_at s b owns) ≡ e → closed s b owns ≡ Some g
-    → (no_empty false (items_at s b owns) ≡ true) × (group_of (group_kind s b (has_for owns)) owns ≡ g)
+closed_is : (s : Shape) (b : Preceding) (owns : List Inner) (g : Item) (e : Bool) → no_empty_cell false (items_at s b owns) ≡ e → closed s b owns ≡ Some g
+    → (no_empty_cell false (items_at s b owns) ≡ true) × (group_of (group_kind s b (has_for owns)) owns ≡ g)
 closed_is s b owns g e is same =
     let os = items_at s b owns in
     let found : closed s b owns ≡ option_map (group_with (group_kind s b (has_for owns))) (cond e (Some (inside os)) None) = ap (option_map (group_with (group_kind s b (has_for owns)))) (inside_found os ∙ ap (λ c. cond c (Some (inside os)) None) is) in
     at_end e is (sym found ∙ same)
   where
-    at_end : (c : Bool) → no_empty false (items_at s b owns) ≡ c → option_map (group_with (group_kind s b (has_for owns))) (cond c (Some (inside (items_at s b owns))) None) ≡ Some g
-        → (no_empty false (items_at s b owns) ≡ true) × (group_of (group_kind s b (has_for owns)) owns ≡ g)
+    at_end : (c : Bool) → no_empty_cell false (items_at s b owns) ≡ c → option_map (group_with (group_kind s b (has_for owns))) (cond c (Some (inside (items_at s b owns))) None) ≡ Some g
+        → (no_empty_cell false (items_at s b owns) ≡ true) × (group_of (group_kind s b (has_for owns)) owns ≡ g)
     at_end true whole found = (whole, some_injective (group_of (group_kind s b (has_for owns)) owns) g found)
     at_end false whole found = absurd (none_is_some g found)
 

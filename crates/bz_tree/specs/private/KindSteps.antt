@@ -8,7 +8,7 @@ use Rattle.bz_tree.specs.declared.tree.kinds.Shape.TheVariants.{Round, Square, C
 use Rattle.bz_tree.specs.declared.tree.kinds.Preceding.{Preceding}
 use Rattle.bz_tree.specs.Tree.{leaf, is_operator_item}
 use Rattle.bz_tree.specs.Kinds.{after_item}
-use Rattle.bz_tree.specs.Owners.{Own}
+use Rattle.bz_tree.specs.Owners.{Inner}
 use Rattle.bz_tree.specs.Brackets.{as_node, is_for_item}
 use Rattle.bz_tree.specs.Statement.{augmented}
 
@@ -31,7 +31,7 @@ is_augmented text = is_one_of augmented text
 abbrev pub is_assign_operator : List ℕ → Bool
 is_assign_operator text = is_one_of (codes "=" ∷ augmented) text
 
-abbrev pub own_item : Bool → Own → Own
+abbrev pub own_item : Bool → Inner → Inner
 own_item one own = if one then as_node own else own
 
 abbrev pub same_shape : Option Shape → Shape → Bool

@@ -20,7 +20,7 @@ use Rattle.bz_tree.specs.Comments.{beside as texts_of}
 use Rattle.bz_tree.specs.View.{text_of, texts, node_view, seg_view}
 use Rattle.bz_tree.specs.Kinds.{mark_of, is_one, group_kind}
 use Rattle.bz_tree.specs.private.KindSteps.{same_shape}
-use Rattle.bz_tree.specs.Owners.{Own, node, comma, comment, Inside}
+use Rattle.bz_tree.specs.Owners.{Inner, node, comma, comment, Inside}
 use Rattle.bz_tree.specs.Cells.{Last, no_token, end_of_node, end_of_comma, is_on}
 use Rattle.bz_tree.specs.Brackets.{leaf_of, preceding, is_for_item, group_with}
 use Rattle.bz_tree.specs.Elements.{own_of}
@@ -120,13 +120,13 @@ abbrev pub has_one : Option GroupKind → Bool
 has_one None = true
 has_one (Some kind) = is_one kind
 
-abbrev pub is_for : Own → Bool
+abbrev pub is_for : Inner → Bool
 is_for (node line x) = is_for_item x
 is_for (comma t) = false
 is_for (comment line text) = false
 
 -- one more thing, unless a segment is empty; where all is one segment, a comma is a node
-abbrev pub after_own : Bool → Own → Option Walked → Option Walked
+abbrev pub after_own : Bool → Inner → Option Walked → Option Walked
 after_own one (node line x) w = option_map (after_node line x) w
 after_own one (comment line text) w = option_map (after_comment line text) w
 after_own true (comma t) w = option_map (after_node t.line (leaf_of t)) w
@@ -148,7 +148,7 @@ levels fs = reverse (map level fs)
 abbrev pub Levels : Type 0
 Levels = Level × List Level
 
-abbrev pub with_own : Level → Own → Level
+abbrev pub with_own : Level → Inner → Level
 with_own l own = record {
   kind = if is_for own && is_in_first l.walked then as_comprehension l.kind else l.kind;
   walked = after_own (has_one l.kind) own l.walked;

@@ -12,8 +12,8 @@ loop-at-init c = grind (arith, common_steps, all_joints, joints_pass, no_joint)
 pub loop-at-preserved : goal.loop-at-preserved
 loop-at-preserved c = grind (arith, common_steps, all_joints, joints_pass, no_joint)
 
-pub returns-then-not-is_joint : goal.returns-then-not-is_joint
-returns-then-not-is_joint c = grind (arith, common_steps, all_joints, joints_pass, no_joint)
+pub returns-then-not-may_be_in_sum : goal.returns-then-not-may_be_in_sum
+returns-then-not-may_be_in_sum c = grind (arith, common_steps, all_joints, joints_pass, no_joint)
 
 pub returns-else-not-is_end : goal.returns-else-not-is_end
 returns-else-not-is_end c = grind (arith, common_steps, all_joints, joints_pass, no_joint)

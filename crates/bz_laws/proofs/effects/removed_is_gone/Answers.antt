@@ -1,4 +1,4 @@
-use Rattle.bz_label.specs.declared.arguments.Moved.TheVariants.{Values}
+use Rattle.bz_label.specs.declared.arguments.Chosen.TheVariants.{Values}
 use Rattle.bz_attribute.specs.Rules.{is_named}
 use Rattle.bz_attribute.specs.Effects.{filtered, unchosen}
 use Rattle.bz_rule.specs.Remove.{goes_with_all}

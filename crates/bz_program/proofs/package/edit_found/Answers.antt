@@ -31,7 +31,7 @@ returns-in-Err g c = record {
       inl (record {
         tried = subst (λ folder. IsTried g.D.Folder.absent folder c.args.job.home c.in-Err.name.now) c.folder.ensures (tried_as g.D.Folder.absent c.folder.result.now c.args.job.home _ _ _ c.requires c.in-Err.ensures.unopened);
         why = c.in-Err.why;
-        is_absent = λ e. subst (λ folder. g.D.Folder.absent folder c.in-Err.name.now) c.folder.ensures (c.in-Err.ensures.absent e);
+        absent_note = λ e. subst (λ folder. g.D.Folder.absent folder c.in-Err.name.now) c.folder.ensures (c.in-Err.ensures.absent e);
         account_is = refl;
       }),
     );

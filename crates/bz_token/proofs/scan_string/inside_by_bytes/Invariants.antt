@@ -4,12 +4,12 @@ use Rattle.bz_token.specs.Lexical.{is_newline}
 use Rattle.bz_token.specs.private.Closing.{closes}
 use Rattle.bz_token.specs.declared.scan_string.Escape.TheVariants.{Unescaped}
 use Rattle.bz_token.proofs.scan_string.inside_by_bytes.Given as goal
-use Rattle.bz_token.specs.Strings.{closing_row}
+use Rattle.bz_token.specs.Strings.{quote_count}
 
 abbrev pub invariant-loop-i : goal.invariant-loop-i
 invariant-loop-i l = record {
   rest : (ys : List ℕ) → closes l.quotes 0 Unescaped (take l.i l.bytes ++ ys) ≡ closes l.quotes l.row l.escape ys;
   none : (n : ℕ) → n ≤ l.i → closes l.quotes 0 Unescaped (take n l.bytes) ≡ false;
-  row : l.row < closing_row l.quotes.long;
+  row : l.row < quote_count l.quotes.long;
   one_line : l.has_newline ≡ false → list_any is_newline (take l.i l.bytes) ≡ false;
 }

@@ -1,7 +1,7 @@
 use Rattle.std.proofs.Common.{None, ap, map, refl, subst, sym, ◌∙◌, if◌then◌else◌}
 use Rattle.bz_tree.specs.Rows.{part_view}
-use Rattle.bz_label.specs.declared.arguments.Moved.{Moved}
-use Rattle.bz_label.specs.declared.arguments.Moved.TheVariants.{All, Values}
+use Rattle.bz_label.specs.declared.arguments.Chosen.{Chosen}
+use Rattle.bz_label.specs.declared.arguments.Chosen.TheVariants.{All, Values}
 use Rattle.bz_attribute.specs.Effects.{done}
 use Rattle.bz_rule.specs.Move.{moves}
 use Rattle.bz_rule.specs.private.Steps.{moved}
@@ -18,6 +18,6 @@ returns-in_ok-words-in-Values c =
     let home = c.args.env.home.now in
     let words = c.in_ok-words-in-Values.words.words.now in
     ok_as
-    (λ e h. subst (λ (chosen : Moved). IsRowEdit (λ args. if moves home c.args.change.old.now chosen args then moved home c.args.change.old.now c.args.change.new.now chosen args else args) (λ args. done None (moves home c.args.change.old.now chosen args)) (map part_view c.args.parts.now) (map part_view c.move_meant-in-Values.new.written.items) e)
+    (λ e h. subst (λ (chosen : Chosen). IsRowEdit (λ args. if moves home c.args.change.old.now chosen args then moved home c.args.change.old.now c.args.change.new.now chosen args else args) (λ args. done None (moves home c.args.change.old.now chosen args)) (map part_view c.args.parts.now) (map part_view c.move_meant-in-Values.new.written.items) e)
     (sym (c.in-Values.is ∙ ap Values (sym (c.in_ok-words-in-Values.ensures ∙ c.as_slice.ensures)))) (h (Values words) refl (meant_chosen home words)))
     c.move_meant-in-Values.result c.move_meant-in-Values.ensures

@@ -9,7 +9,7 @@ use Rattle.bz_rule.specs.declared.commands.field.Field.TheVariants.{ValueOf}
 use Rattle.bz_attribute.specs.Rules.{Rule, first_named, name_in, rule_of, string_value, value}
 use Rattle.bz_attribute.specs.Texts.{home_text}
 use Rattle.bz_attribute.specs.declared.done.Done.{Done}
-use Rattle.bz_rule.specs.Print.{field_text, list_text, prints, value_text, word_form}
+use Rattle.bz_rule.specs.Print.{field_text, other_text, prints, value_text, word_form}
 use Rattle.bz_rule.proofs.commands.print.print_name.Goals as goal
 use Rattle.bz_rule.proofs.commands.print.print_name.Goals.{in-Label, in-ValueOf}
 
@@ -27,7 +27,7 @@ one_printed home field fields s r text one is told = rw (one, is, told) refl
 name_told : (home : Package) (s : Statement) (r : Rule) (name : List ℕ) → name_in r.args ≡ Some name → field_text home s r (ValueOf (codes "name")) ≡ Some (word_form name)
 name_told home s r name h =
     elim (first_named (codes "name") r.args) as (λ o. option_and_then (λ (a : Segment). string_value (value a)) o ≡ Some name → option_map (λ (a : Segment). value_text (value a)) o ≡ Some (word_form name))
-    [ None ↦ λ k. absurd cc | Some a ↦ λ k. ap (λ (v : Option (List ℕ)). Some (map_or (list_text (value a)) word_form v)) k ] h
+    [ None ↦ λ k. absurd cc | Some a ↦ λ k. ap (λ (v : Option (List ℕ)). Some (map_or (other_text (value a)) word_form v)) k ] h
 
 pub returns-clause-line : goal.returns-clause-line
 returns-clause-line c s r is named =

@@ -12,7 +12,7 @@ use Rattle.bz_attribute.specs.ListWalk.{is_list}
 use Rattle.bz_attribute.proofs.ListPieces.{only_more, only_one}
 use Rattle.bz_attribute.specs.Rules.{elements, string_value}
 use Rattle.bz_attribute.proofs.Mapped.{one_node}
-use Rattle.bz_rule.specs.Print.{list_text, value_text, word_form, words_text}
+use Rattle.bz_rule.specs.Print.{other_text, value_text, word_form, words_text}
 use Rattle.std.proofs.lemmas.Bool.{and_left, and_right}
 use Rattle.std.proofs.lemmas.Bool.Decides.{nat_tests}
 use Rattle.bz_rule.proofs.commands.print.push_nodes.Goals as goal
@@ -25,7 +25,7 @@ none (Some x) h = absurd cc
 
 -- no list of strings with values
 abbrev IsFlat : List Item → Type 0
-IsFlat nodes = list_text nodes ≡ flat_text (Some RuleCall) nodes
+IsFlat nodes = other_text nodes ≡ flat_text (Some RuleCall) nodes
 
 flat_value : (nodes : List Item) → is_some (string_value nodes) ≡ false → IsFlat nodes → value_text nodes ≡ flat_text (Some RuleCall) nodes
 flat_value nodes string flat = rw (none (string_value nodes) string) flat

@@ -14,7 +14,7 @@ use Rattle.bz_tree.proofs.Rows.FromParts.{listed_back, nodes_back}
 use Rattle.bz_layout.specs.Layout.{flat_text}
 use Rattle.bz_attribute.specs.Rules.{only_text}
 use Rattle.bz_label.specs.Values.{value_of}
-use Rattle.bz_rule.specs.Print.{list_text, value_text, word_form}
+use Rattle.bz_rule.specs.Print.{other_text, value_text, word_form}
 use Rattle.bz_rule.proofs.commands.print.push_value.Goals as goal
 
 -- two nodes are no string alone
@@ -34,7 +34,7 @@ is_flat : (kind : Kind) (text : List ℕ) (p : RowPart) (ps : List RowPart) (val
 is_flat kind text p ps [] h = absurd cc
 is_flat kind text p ps (leaf k t ∷ []) h = absurd cc
 is_flat kind text p ps (leaf k t ∷ x ∷ xs) h =
-    ap (λ (o : Option (List ℕ)). map_or (list_text (leaf k t ∷ x ∷ xs)) word_form (option_and_then value_of o)) (sym (no_text k t x xs))
+    ap (λ (o : Option (List ℕ)). map_or (other_text (leaf k t ∷ x ∷ xs)) word_form (option_and_then value_of o)) (sym (no_text k t x xs))
 is_flat kind text p ps (group k segs one end ∷ xs) h = absurd cc
 
 flat_of : (parts : List Part) (none : Part) (value : List Item) → 1 < length parts → (kind : Kind) × (text : List ℕ) × (part_view (get_or parts 0 none) ≡ a_token kind text)
