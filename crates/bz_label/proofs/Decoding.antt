@@ -1,12 +1,12 @@
 -- A literal's value taken over in runs.
 use Rattle.std.proofs.Common.{◌≡◌, ℕ, ◌+◌, ◌<◌, ◌≤◌, ◌-◌, ◌==◌, ◌&&◌, ◌||◌, List, [], ◌∷◌, ◌++◌, length, take, drop, get_or, Bool, true, Option, Some, None, refl, sym, ap, ap₂, ◌∙◌, arith, inl, inr, append_assoc, append-nil, eqb-true}
 use Rattle.std.specs.Prelude.{if◌then◌else◌, option_map, nat_lt}
-use Rattle.std.specs.List.{list_all}
+use Rattle.std.specs.List.{list_all, find}
 use Rattle.std.specs.Str.{IsUtf8, IsCharBoundary}
 use Rattle.std.proofs.lemmas.Bool.{cases_Bool, and_parts, or_left, or_right, ltb-true}
 use Rattle.std.proofs.lemmas.List.{drop-drop, take_more, get_or-drop, length-drop}
 use Rattle.std.proofs.lemmas.Str.{IsCharBoundary-after_ascii, IsCharBoundary-before_ascii}
-use Rattle.bz_label.specs.Values.{escapes, meant}
+use Rattle.bz_label.specs.Values.{escapes, escape_value}
 use Rattle.bz_label.specs.private.ValueSteps.{first_len, is_newline, unit_value, value_in, taken}
 use Rattle.bz_label.proofs.Literals.{taken_is}
 
@@ -63,6 +63,10 @@ single raw (b ∷ rest) v some h = elim (cases_Bool (b == 92)) [
   | inr other ↦ let this : Some b ≡ Some v = rw other at h in cc
 ]
 
+-- the value that a table has for a byte
+abbrev meant : ℕ → List (ℕ × ℕ) → Option ℕ
+meant c es = option_map (λ e. e.1) (find (λ e. c == e.0) es)
+
 meant_small : (c v : ℕ) (es : List (ℕ × ℕ)) → list_all (λ e. nat_lt e.0 128 && nat_lt e.1 128) es ≡ true → meant c es ≡ Some v → (c < 128) × (v < 128)
 meant_small c v [] h is = absurd (cc)
 meant_small c v (e ∷ es) h is =
@@ -93,10 +97,10 @@ pair_ascii : (raw : Bool) (b c v : ℕ) → b == 92 || b == 13 && c == 10 ≡ tr
 pair_ascii raw b c v h is = elim (cases_Bool (b == 92)) [
   | inl back ↦
       let e : b ≡ 92 = eqb-true b 92 back in
-      let this : (if raw then None else meant c escapes) ≡ Some v = rw back at is in
+      let this : (if raw then None else escape_value c) ≡ Some v = rw back at is in
       elim (cases_Bool raw) [
         | inl r ↦ let none : None ≡ Some v = rw r at this in absurd (cc)
-        | inr r ↦ let value : meant c escapes ≡ Some v = rw r at this in let small = meant_small c v escapes refl value in (omega arith, small.0, small.1)
+        | inr r ↦ let value : escape_value c ≡ Some v = rw r at this in let small = meant_small c v escapes refl value in (omega arith, small.0, small.1)
       ]
   | inr other ↦
       let both : b == 13 && c == 10 ≡ true = rw other at h in

@@ -2,7 +2,7 @@
 use Rattle.std.proofs.Common.{◌≡◌, ℕ, ◌==◌, List, [], ◌∷◌, ◌++◌, false, Some, nat_eq, refl, sym, ◌∙◌, arith, inl, inr, append_assoc, eqb-true}
 use Rattle.std.specs.List.{flat_map, starts_with}
 use Rattle.std.proofs.lemmas.Bool.{cases_Bool, eqb-false, ne_eqb}
-use Rattle.bz_label.specs.Values.{written, quoted, escapes, meant, value_of}
+use Rattle.bz_label.specs.Values.{written, quoted, escape_value, value_of}
 use Rattle.bz_label.specs.private.ValueSteps.{opening, opened_value, first_len, inner_value}
 use Rattle.bz_label.proofs.ValueForms.{opened_other}
 use Rattle.bz_label.proofs.Literals.{step, one_alone}
@@ -11,7 +11,7 @@ escape_len : (x : ℕ) (r : List ℕ) → x == 13 ≡ false → first_len (92 �
 escape_len x [] h = refl
 escape_len x (d ∷ r) h = rw h refl
 
-escape_read : (x k : ℕ) (r v : List ℕ) → x == 13 ≡ false → meant x escapes ≡ Some k → inner_value false (34 ∷ []) r ≡ Some v → inner_value false (34 ∷ []) (92 ∷ x ∷ r) ≡ Some (k ∷ v)
+escape_read : (x k : ℕ) (r v : List ℕ) → x == 13 ≡ false → escape_value x ≡ Some k → inner_value false (34 ∷ []) r ≡ Some v → inner_value false (34 ∷ []) (92 ∷ x ∷ r) ≡ Some (k ∷ v)
 escape_read x k r v h m rest =
     step false (34 ∷ []) (92 ∷ x ∷ r) (omega arith) refl ∙ rw (escape_len x r h, m, rest) refl
 

@@ -12,7 +12,7 @@ use Rattle.bz_token.specs.Strings.{is_byte, is_quote, are_two, opens_after, open
 use Rattle.bz_token.proofs.CutStrings.{grouped_joins, grouped_apart}
 use Rattle.bz_token.proofs.Openings.{opens_r, opens_rb, opens_b, opens_br, opens_plain}
 use Rattle.bz_token.proofs.Units.{FirstUnit, byte, feed, return_feed, alone, return_alone, return_other, other, first_unit}
-use Rattle.bz_label.specs.Values.{escapes, meant, content, unit_value, values, value_after, value_of}
+use Rattle.bz_label.specs.Values.{content, unit_value, values, value_after, value_of}
 use Rattle.bz_label.specs.private.ValueSteps.{first_len, is_newline, unit_value as old_value, inner_value, value_in, opened_value}
 use Rattle.bz_label.proofs.Literals.{step, shut, ended_at}
 

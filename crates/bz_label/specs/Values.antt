@@ -3,9 +3,9 @@
 -- an escape: a backslash and what it takes along (stop 8, `units`). `Opening`, of `src/scan_string.rt` of
 -- bz_token, has the number of prefix letters and the quotes.
 -- Begin with `value_of` and `quoted`.
--- Of later stops: 8 `quote_count`, `inside`, `is_byte`, `is_string`, `opening`.
+-- Of later stops: 8 `inside`, `is_byte`, `is_string`, `opening`, `quote_count`.
 use Rattle.std.specs.Prelude.{ℕ, ◌-◌, ◌≡◌, ◌⊎◌, not, ◌==◌, List, [], ◌∷◌, ◌++◌, Bool, true, false, ◌&&◌, if◌then◌else◌, Option, Some, None, option_map, codes, length, take, bytes_eq, option_and_then}
-use Rattle.std.specs.List.{list_all, flat_map}
+use Rattle.std.specs.List.{list_all, flat_map, find}
 use Rattle.bz_token.specs.declared.token.Kind.{Kind}
 use Rattle.bz_token.specs.declared.token.Kind.TheVariants.{String}
 use Rattle.bz_token.specs.declared.token.Token.{Token}
@@ -24,15 +24,14 @@ escapes =
     (97, 7) ∷ (98, 8) ∷ (102, 12) ∷ (110, 10) ∷ (114, 13) ∷ (116, 9) ∷ (118, 11)
     ∷ (92, 92) ∷ (39, 39) ∷ (34, 34) ∷ []
 
--- the value that a table of escapes has for the byte after the backslash
-abbrev pub meant : ℕ → List (ℕ × ℕ) → Option ℕ
-meant b [] = None
-meant b (e ∷ es) = if b == e.0 then Some e.1 else meant b es
+-- the value of an escape, by the byte after the backslash
+abbrev pub escape_value : ℕ → Option ℕ
+escape_value b = option_map (λ e. e.1) (find (λ e. b == e.0) escapes)
 
 -- a byte has its own value; an escape, a backslash and one byte, has none in a raw string
 abbrev pub unit_value : Bool → List ℕ → Option ℕ
 unit_value raw (b ∷ []) = Some b
-unit_value raw (backslash ∷ b ∷ []) = if raw then None else meant b escapes
+unit_value raw (backslash ∷ b ∷ []) = if raw then None else escape_value b
 unit_value raw _ = None
 
 -- the values of all units, where each has one; a carriage return before a newline is left out

@@ -117,7 +117,7 @@ fn take_unit(raw: bool, short: bool, bytes: &[u8]) -> Option<(u8, &[u8])>
 }
 
 fn escape_value(b: u8) -> Option<u8>
-    ensures { result ≡ spec.meant b spec.escapes }
+    ensures { result ≡ spec.escape_value b }
 {
     match b {
         b'a' => Some(7),

@@ -3,7 +3,7 @@ use Rattle.std.specs.Prelude.{ℕ, nat_eq, ◌==◌, List, [], ◌∷◌, length
 use Rattle.std.specs.List.{concat, starts_with}
 use Rattle.bz_token.specs.Groups.{grouped}
 use Rattle.bz_token.specs.Strings.{is_quote}
-use Rattle.bz_label.specs.Values.{is_plain, meant, escapes}
+use Rattle.bz_label.specs.Values.{is_plain, escape_value}
 
 -- What stands between a literal's quotes is units. An escape is one: a backslash takes the byte after it, and a carriage
 -- return also the newline after that. A carriage return and a newline are one. Any other byte is one.
@@ -38,7 +38,7 @@ inner_of text = content (opening text) (units (drop (length (opening text)) text
 abbrev pub unit_value : Bool → List ℕ → Option ℕ
 unit_value raw [] = None
 unit_value raw (b ∷ []) = if b == 92 then None else Some b
-unit_value raw (b ∷ c ∷ []) = if b == 92 then (if raw then None else meant c escapes) else Some c
+unit_value raw (b ∷ c ∷ []) = if b == 92 then (if raw then None else escape_value c) else Some c
 unit_value raw (b ∷ c ∷ d ∷ bs) = None
 
 -- each unit has one
