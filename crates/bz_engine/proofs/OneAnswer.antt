@@ -15,7 +15,7 @@ use Rattle.bz_tree.specs.Tree.{Statement}
 use Rattle.bz_tree.specs.Brackets.{without_lines, AreNested, no_token}
 use Rattle.bz_tree.specs.declared.tree.kinds.Preceding.TheVariants.{Other}
 use Rattle.bz_tree.specs.Statement.{bare_tokens, first_seen, segment_of, statement_with}
-use Rattle.bz_tree.specs.Grammar.{none as no_nodes, by_production, or_left}
+use Rattle.bz_tree.specs.Grammar.{none as no_nodes, by_production, former}
 use Rattle.bz_tree.specs.Chunk.{IsPlain, IsOneOf, indent_at, indent_fault, IsChunkOf, IsReadAs, IsNoStatement}
 use Rattle.bz_tree.proofs.Trees.Sound.{some_injective}
 use Rattle.bz_tree.proofs.Trees.Standing.{bare_empty}
@@ -38,7 +38,7 @@ none_counts ts h = bare_empty ts (nothing_seen (without_lines ts) h)
 blank_plain : (ts : List Placed) → without_lines ts ≡ [] → IsPlain ts (statement_with ts (segment_of []))
 blank_plain ts bare = record {
   tree = record { owns = []; nested = subst (λ (us : List Placed). AreNested Other us []) (sym bare) no_token; is = refl };
-  grammar = by_production (or_left no_nodes);
+  grammar = by_production (former no_nodes);
 }
 
 blank_chunk : (first : ℕ) (bytes : List ℕ) (ts : List Placed) → IsNone (first_seen ts) → IsChunkOf first bytes ts (statement_with ts (segment_of []))

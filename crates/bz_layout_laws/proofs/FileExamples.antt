@@ -11,7 +11,7 @@ use Rattle.bz_token.specs.Chunks.{chunks}
 use Rattle.bz_tree.specs.declared.tree.Class.{Class}
 use Rattle.bz_tree.specs.declared.tree.Class.TheVariants.{Load as LoadClass, Assign, Rule, Comment, Block}
 use Rattle.bz_tree.specs.declared.tree.GroupKind.TheVariants.{Load, RuleCall}
-use Rattle.bz_tree.specs.Grammar.{none, by_production, or_left}
+use Rattle.bz_tree.specs.Grammar.{none, by_production, former}
 use Rattle.bz_tree.specs.Tree.{Item, leaf, group, Segment, Statement, segs_of}
 use Rattle.bz_layout_laws.specs.FileRead.{AreStatementsIn}
 use Rattle.bz_layout_laws.specs.FileText.{text_from, chunks_from}
@@ -73,7 +73,7 @@ lines_formed : IsWellFormed 0 lines
 lines_formed = record {
   texts = record { some = λ e. absurd (false≢true (sym e)); before = refl; nodes = tt; suffix = refl };
   parsed = record { kinds = tt; rule = refl; class = refl; alone = λ e. refl; lines = λ e. refl };
-  grammar = by_production (or_left none);
+  grammar = by_production (former none);
   depth_fits = omega arith;
 }
 

@@ -6,7 +6,7 @@ use Rattle.bz_token.specs.declared.token.Kind.TheVariants.{Identifier, Keyword, 
 use Rattle.bz_tree.specs.declared.tree.GroupKind.{GroupKind}
 use Rattle.bz_tree.specs.declared.tree.GroupKind.TheVariants.{Load, Index, ListComp}
 use Rattle.bz_tree.specs.Tree.{Item, leaf, group, items_of, Segs, no_segs, seg}
-use Rattle.bz_tree.specs.Grammar.{IsStatement, AreOf, Unary, none, of_kind, of_texts, by_production, in_turn, or_left, no_more, again}
+use Rattle.bz_tree.specs.Grammar.{IsStatement, AreOf, Unary, none, of_kind, of_texts, by_production, in_turn, former, no_more, again}
 use Rattle.bz_tree.specs.private.Machine.{is_statement}
 use Rattle.bz_tree.proofs.Recognizer.Recognized.{statement_accepted, accepted_statement}
 
@@ -28,7 +28,7 @@ around kind nodes = group kind (seg [] (items_of nodes) None no_segs) false []
 
 -- `-x`, by the rows
 minus : AreOf Unary (items_of (sign (codes "-") ∷ name (codes "x") ∷ []))
-minus = by_production (in_turn (again (or_left (of_texts refl)) no_more) (by_production (or_left (in_turn (by_production (or_left of_kind)) no_more))))
+minus = by_production (in_turn (again (former (of_texts refl)) no_more) (by_production (former (in_turn (by_production (former of_kind)) no_more))))
 
 accepted : (nodes : List Item) → is_statement (items_of nodes) ≡ true → IsStatement (items_of nodes)
 accepted nodes is = accepted_statement (items_of nodes) is
@@ -42,7 +42,7 @@ refused nodes not h = false≢true (sym not ∙ statement_accepted (items_of nod
 
 -- comment lines alone
 comments : IsStatement (items_of [])
-comments = by_production (or_left none)
+comments = by_production (former none)
 
 abbrev x : Item
 x = name (codes "x")

@@ -158,8 +158,8 @@ pub data Has : Form → List Part → Type 0 where
   by_production : {r : Nonterminal} {ps : List Part} → Has (production r) ps → Has (the r) ps
   in_turn : {f g : Form} {ps qs : List Part} → Has f ps → Has g qs → Has (f then g) (ps ++ qs)
   -- the form before an `or`, and the one after it
-  or_left : {f g : Form} {ps : List Part} → Has f ps → Has (f or g) ps
-  or_right : {f g : Form} {ps : List Part} → Has g ps → Has (f or g) ps
+  former : {f g : Form} {ps : List Part} → Has f ps → Has (f or g) ps
+  latter : {f g : Form} {ps : List Part} → Has g ps → Has (f or g) ps
   no_more : {f : Form} → Has (many f) []
   again : {f : Form} {ps qs : List Part} → Has f ps → Has (many f) qs → Has (many f) (ps ++ qs)
 

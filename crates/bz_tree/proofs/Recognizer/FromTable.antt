@@ -12,7 +12,7 @@ use Rattle.bz_tree.specs.declared.grammar.role.Role.TheVariants.{Name, Number, V
 use Rattle.bz_tree.specs.Tree.{Item, leaf, group, Items, no_items, item, Segs, no_segs, seg}
 use Rattle.bz_tree.specs.Statement.{augmented, is_load_word}
 use Rattle.bz_tree.specs.Grammar as Table
-use Rattle.bz_tree.specs.Grammar.{Nonterminal, Form, any, one_of, word, sign, prefix, star, assignment, binary, binary_signs, binary_words, bracket, segment, the, ◌then◌, ◌or◌, many, maybe, each_segment, production, Part, node, between_commas, nodes, contents, Has, none, of_kind, of_texts, in_bracket, in_segment, by_production, in_turn, or_left, or_right, no_more, again, AreOf}
+use Rattle.bz_tree.specs.Grammar.{Nonterminal, Form, any, one_of, word, sign, prefix, star, assignment, binary, binary_signs, binary_words, bracket, segment, the, ◌then◌, ◌or◌, many, maybe, each_segment, production, Part, node, between_commas, nodes, contents, Has, none, of_kind, of_texts, in_bracket, in_segment, by_production, in_turn, former, latter, no_more, again, AreOf}
 use Rattle.bz_tree.specs.private.Productions.{token_role, leaf_role, is_prefix, is_operator, is_star, is_assignment, join, begins_dot, IsBinOp, operator, not_in, IsTest, plain, conditional, IsChain, single, binary as binary_chain, IsTerm, primary, unary, IsPrimary, number, operand, AreSuffixes, no_suffix, member, suffix, IsSuffix, call, index, IsOperand, ident, text as text_operand, paren, list, dict, list_comp, dict_comp, AreTests, no_test, one_test, AreArgs, no_arg, one_arg, IsArg, positional, keyword, starred, AreEntries, no_entry, one_entry, IsEntry, entry, element, IsEntryElement, entry_element, IsFor, for, AreTargets, last_target, target, AreClauses, no_clause, for_clause, if_clause, IsIndex, at, slice, IsRange, upper, stepped, IsOptional, nothing, some, IsExpr, last_test, test, IsString, string, IsLoadArg, loaded, renamed, AreLoadArgs, no_load_arg, load_arg, IsLoad, load, IsStatement, comments, load_statement, expression, assignment as assigned}
 use Rattle.bz_tree.proofs.Recognizer.Accepted.{join_empty, join_assoc}
 use Rattle.bz_tree.proofs.Recognizer.Tokens.{one_by_one}
@@ -495,8 +495,8 @@ meant (in_turn {f} {g} {ps} {qs} h k) = (
   record { front = ps; back = qs; is = refl; one = (meant h).0; other = (meant k).0 },
   λ xs e. let s = split ps qs xs e in record { front = s.front; back = s.back; is = s.is; one = (meant h).1 s.front s.front_is; other = (meant k).1 s.back s.back_is },
 )
-meant (or_left h) = (tt, λ xs e. inl ((meant h).1 xs e))
-meant (or_right h) = (tt, λ xs e. inr ((meant h).1 xs e))
+meant (former h) = (tt, λ xs e. inl ((meant h).1 xs e))
+meant (latter h) = (tt, λ xs e. inr ((meant h).1 xs e))
 meant no_more = (stop_of, λ xs e. subst (Repeated _) (sym (no_nodes xs e)) stop)
 meant (again {f} {ps} {qs} h k) = (
   step_of (meant h).0 (meant k).0,

@@ -11,7 +11,7 @@ use Rattle.bz_tree.specs.declared.grammar.role.Role.TheVariants.{Name, Number, V
 use Rattle.bz_tree.specs.Tree.{Item, leaf, group, Items, no_items, item, Segs, is_call}
 use Rattle.bz_tree.specs.Statement.{is_load_word}
 use Rattle.bz_tree.specs.Grammar as Table
-use Rattle.bz_tree.specs.Grammar.{Form, any, one_of, word, sign, prefix, star, assignment, binary, bracket, segment, the, ◌then◌, ◌or◌, many, maybe, each_segment, production, Nonterminal, Part, node, between_commas, nodes, contents, Has, none, of_kind, of_texts, in_bracket, in_segment, by_production, in_turn, or_left, or_right, no_more, again, AreOf}
+use Rattle.bz_tree.specs.Grammar.{Form, any, one_of, word, sign, prefix, star, assignment, binary, bracket, segment, the, ◌then◌, ◌or◌, many, maybe, each_segment, production, Nonterminal, Part, node, between_commas, nodes, contents, Has, none, of_kind, of_texts, in_bracket, in_segment, by_production, in_turn, former, latter, no_more, again, AreOf}
 use Rattle.bz_tree.specs.private.Productions.{token_role, is_prefix, is_operator, is_star, is_assignment, join, is_dot_role, begins_dot, IsBinOp, operator, not_in, IsTest, plain, conditional, IsChain, single, binary as binary_chain, IsTerm, primary, unary, IsPrimary, number, operand, AreSuffixes, no_suffix, member, suffix, IsSuffix, call, index, IsOperand, ident, text, paren, list, dict, list_comp, dict_comp, AreTests, no_test, one_test, AreArgs, no_arg, one_arg, IsArg, positional, keyword, starred, AreEntries, no_entry, one_entry, IsEntry, entry, IsElement, element, IsEntryElement, entry_element, IsFor, for, AreTargets, last_target, target, AreClauses, no_clause, for_clause, if_clause, IsIndex, at, slice, IsRange, upper, stepped, IsOptional, nothing, some, IsExpr, last_test, test, IsString, string, IsLoadArg, loaded, renamed, AreLoadArgs, no_load_arg, load_arg, IsLoad, load, IsStatement, comments, load_statement, expression, assignment as assigned}
 use Rattle.bz_tree.proofs.Recognizer.Accepted.{join_empty, join_assoc}
 use Rattle.bz_tree.proofs.Recognizer.Tokens.{has_role}
@@ -43,7 +43,7 @@ one_more f g os _ h (in_turn {ps} {qs} a b) = subst (Has (many f then g)) (appen
 prefixed : (p : Item) (r : Role) → token_role p ≡ r → is_prefix r ≡ true → Has prefix (node p ∷ [])
 prefixed p Sum is h = (has_role p Sum is).0
 prefixed p Tilde is h = has_role p Tilde is
-prefixed p Not is h = or_right (has_role p Not is)
+prefixed p Not is h = latter (has_role p Not is)
 prefixed p _ is h = absurd (false≢true h)
 
 operated : (o : Item) (r : Role) → token_role o ≡ r → is_operator r ≡ true → Has binary (node o ∷ [])
@@ -65,7 +65,7 @@ assigning s _ is h = absurd (false≢true h)
 
 binary_formed : {xs : Items} → IsBinOp xs → Fits binary xs
 binary_formed (operator {o} is) = operated o (token_role o) refl is
-binary_formed (not_in {n} {i} rn ri) = or_right (or_right (in_turn (has_role n Not rn) (has_role i In ri).0))
+binary_formed (not_in {n} {i} rn ri) = latter (latter (in_turn (has_role n Not rn) (has_role i In ri).0))
 
 -- two forms and what follows them
 three : (f g h : Form) (ts rs : List Part) → Has (f then g) ts → Has h rs → Has (f then g then h) (ts ++ rs)
@@ -73,7 +73,7 @@ three f g h _ rs (in_turn {ps} {qs} a b) k = subst (Has (f then g then h)) (sym 
 
 -- of the clauses after an element the first is one of them
 unfold_for : {ps : List Part} → Has (production Table.Nonterminal.Clauses) ps → Has (many (the Table.Nonterminal.For or word (codes "if") then the Table.Nonterminal.Binary)) ps
-unfold_for (in_turn f more) = again (or_left f) more
+unfold_for (in_turn f more) = again (former f) more
 
 -- the variables of a `for`, and the rest of it
 apart : (t r : Items) → Fits (the Table.Nonterminal.Primary then many (sign (codes ",") then the Table.Nonterminal.Primary)) t → Fits (word (codes "in") then the Table.Nonterminal.Binary) r
@@ -82,16 +82,16 @@ apart t r h k = subst (Has _) (sym (nodes_join t r)) (three _ _ _ (nodes t) (nod
 
 called : (kind : GroupKind) (segs : Segs) (one_comma : Bool) (end : List (List ℕ)) → is_call kind ≡ true → Has (each_segment Table.Nonterminal.Argument) (contents segs)
     → Has (the Table.Nonterminal.Bracketed) (node (group kind segs one_comma end) ∷ [])
-called Call segs one_comma end is h = by_production (or_left (in_bracket h))
-called RuleCall segs one_comma end is h = by_production (or_right (or_left (in_bracket h)))
+called Call segs one_comma end is h = by_production (former (in_bracket h))
+called RuleCall segs one_comma end is h = by_production (latter (former (in_bracket h)))
 called _ segs one_comma end is h = absurd (false≢true is)
 
 mutual
   test_form : {xs : Items} → IsTest xs → AreOf Table.Nonterminal.Test xs
-  test_form (plain {xs} c) = by_production (alone _ _ xs (by_production (chain_parts c)) (or_left none))
+  test_form (plain {xs} c) = by_production (alone _ _ xs (by_production (chain_parts c)) (former none))
   test_form (conditional {xs} {a} {b} {c} i e is first ri second re third) =
       by_production (along _ xs (join a (item i (join b (item e c)))) is (beside _ _ a (item i (join b (item e c))) (by_production (chain_parts first))
-      (or_right (in_turn (has_role i If ri) (beside _ _ b (item e c) (by_production (chain_parts second)) (in_turn (has_role e Else re) (test_form third)))))))
+      (latter (in_turn (has_role i If ri) (beside _ _ b (item e c) (by_production (chain_parts second)) (in_turn (has_role e Else re) (test_form third)))))))
 
   chain_parts : {xs : Items} → IsChain xs → Fits (production Table.Nonterminal.Binary) xs
   chain_parts (single {xs} t) = alone _ _ xs (by_production (term_parts t)) no_more
@@ -104,31 +104,31 @@ mutual
   term_parts (unary {p} {xs} is t) = one_more prefix (the Table.Nonterminal.Primary) (node p ∷ []) (nodes xs) (prefixed p (token_role p) refl is) (term_parts t)
 
   primary_form : {xs : Items} → IsPrimary xs → AreOf Table.Nonterminal.Primary xs
-  primary_form (number {x} is s no_dot) = by_production (or_right (in_turn (has_role x Number is) (bare_suffixes s no_dot)))
-  primary_form (operand o s) = by_production (or_left (in_turn (operand_form o) (suffixes_form s)))
+  primary_form (number {x} is s no_dot) = by_production (latter (in_turn (has_role x Number is) (bare_suffixes s no_dot)))
+  primary_form (operand o s) = by_production (former (in_turn (operand_form o) (suffixes_form s)))
 
   bare_suffixes : {xs : Items} → AreSuffixes xs → begins_dot xs ≡ false → Fits (maybe (the Table.Nonterminal.Bracketed then many (the Table.Nonterminal.Suffix))) xs
-  bare_suffixes no_suffix no_dot = or_left none
+  bare_suffixes no_suffix no_dot = former none
   bare_suffixes (member {d} rd rn s) no_dot = absurd (false≢true (sym no_dot ∙ ap is_dot_role rd))
-  bare_suffixes (suffix s more) no_dot = or_right (in_turn (suffix_form s) (suffixes_form more))
+  bare_suffixes (suffix s more) no_dot = latter (in_turn (suffix_form s) (suffixes_form more))
 
   suffixes_form : {xs : Items} → AreSuffixes xs → Fits (many (the Table.Nonterminal.Suffix)) xs
   suffixes_form no_suffix = no_more
-  suffixes_form (member {d} {n} rd rn more) = again (by_production (or_left (in_turn (has_role d Dot rd) (has_role n Name rn)))) (suffixes_form more)
-  suffixes_form (suffix s more) = again (by_production (or_right (suffix_form s))) (suffixes_form more)
+  suffixes_form (member {d} {n} rd rn more) = again (by_production (former (in_turn (has_role d Dot rd) (has_role n Name rn)))) (suffixes_form more)
+  suffixes_form (suffix s more) = again (by_production (latter (suffix_form s))) (suffixes_form more)
 
   suffix_form : {x : Item} → IsSuffix x → Has (the Table.Nonterminal.Bracketed) (node x ∷ [])
   suffix_form (call {kind} {segs} {one_comma} {end} is a) = called kind segs one_comma end is (args_form a)
-  suffix_form (index i) = by_production (or_right (or_right (in_bracket (in_segment (index_form i)))))
+  suffix_form (index i) = by_production (latter (latter (in_bracket (in_segment (index_form i)))))
 
   operand_form : {x : Item} → IsOperand x → Has (the Table.Nonterminal.Operand) (node x ∷ [])
-  operand_form (ident {x} is) = by_production (or_left (has_role x Name is))
-  operand_form (text {x} is) = by_production (or_right (or_left (has_role x Value is)))
-  operand_form (paren t) = by_production (or_right (or_right (or_left (in_bracket (tests_form t)))))
-  operand_form (list t) = by_production (or_right (or_right (or_right (or_left (in_bracket (tests_form t))))))
-  operand_form (dict e) = by_production (or_right (or_right (or_right (or_right (or_left (in_bracket (entries_form e)))))))
-  operand_form (list_comp e) = by_production (or_right (or_right (or_right (or_right (or_right (or_left (in_bracket (in_segment (element_form e)))))))))
-  operand_form (dict_comp e) = by_production (or_right (or_right (or_right (or_right (or_right (or_right (in_bracket (in_segment (entry_element_form e)))))))))
+  operand_form (ident {x} is) = by_production (former (has_role x Name is))
+  operand_form (text {x} is) = by_production (latter (former (has_role x Value is)))
+  operand_form (paren t) = by_production (latter (latter (former (in_bracket (tests_form t)))))
+  operand_form (list t) = by_production (latter (latter (latter (former (in_bracket (tests_form t))))))
+  operand_form (dict e) = by_production (latter (latter (latter (latter (former (in_bracket (entries_form e)))))))
+  operand_form (list_comp e) = by_production (latter (latter (latter (latter (latter (former (in_bracket (in_segment (element_form e)))))))))
+  operand_form (dict_comp e) = by_production (latter (latter (latter (latter (latter (latter (in_bracket (in_segment (entry_element_form e)))))))))
 
   tests_form : {segs : Segs} → AreTests segs → Has (each_segment Table.Nonterminal.Test) (contents segs)
   tests_form no_test = no_more
@@ -139,9 +139,9 @@ mutual
   args_form (one_arg a more) = again (in_segment (arg_form a)) (args_form more)
 
   pub arg_form : {xs : Items} → IsArg xs → AreOf Table.Nonterminal.Argument xs
-  arg_form (positional t) = by_production (or_left (test_form t))
-  arg_form (keyword {n} {e} rn re t) = by_production (or_right (or_left (in_turn (has_role n Name rn) (in_turn (has_role e Equals re).0 (test_form t)))))
-  arg_form (starred {s} is t) = by_production (or_right (or_right (in_turn (starry s (token_role s) refl is) (test_form t))))
+  arg_form (positional t) = by_production (former (test_form t))
+  arg_form (keyword {n} {e} rn re t) = by_production (latter (former (in_turn (has_role n Name rn) (in_turn (has_role e Equals re).0 (test_form t)))))
+  arg_form (starred {s} is t) = by_production (latter (latter (in_turn (starry s (token_role s) refl is) (test_form t))))
 
   entries_form : {segs : Segs} → AreEntries segs → Has (each_segment Table.Nonterminal.Entry) (contents segs)
   entries_form no_entry = no_more
@@ -175,19 +175,19 @@ mutual
   clauses_form no_clause = no_more
   clauses_form (for_clause f) = unfold_for (for_parts f)
   clauses_form (if_clause {xs} {c} {m} i is ri chain more) =
-      along _ xs (join (item i c) m) is (subst (Has _) (sym (nodes_join (item i c) m)) (again (or_right (in_turn (has_role i If ri) (by_production (chain_parts chain)))) (clauses_form more)))
+      along _ xs (join (item i c) m) is (subst (Has _) (sym (nodes_join (item i c) m)) (again (latter (in_turn (has_role i If ri) (by_production (chain_parts chain)))) (clauses_form more)))
 
   index_form : {xs : Items} → IsIndex xs → AreOf Table.Nonterminal.Subscript xs
-  index_form (at t) = by_production (or_left (test_form t))
-  index_form (slice {xs} {a} {b} c is first rc more) = by_production (or_right (along _ xs (join a (item c b)) is (beside _ _ a (item c b) (optional_form first) (in_turn (has_role c Colon rc) (range_form more)))))
+  index_form (at t) = by_production (former (test_form t))
+  index_form (slice {xs} {a} {b} c is first rc more) = by_production (latter (along _ xs (join a (item c b)) is (beside _ _ a (item c b) (optional_form first) (in_turn (has_role c Colon rc) (range_form more)))))
 
   range_form : {xs : Items} → IsRange xs → Fits (maybe (the Table.Nonterminal.Test) then maybe (sign (codes ":") then maybe (the Table.Nonterminal.Test))) xs
-  range_form (upper {xs} o) = alone _ _ xs (optional_form o) (or_left none)
-  range_form (stepped {xs} {a} {b} c is first rc last) = along _ xs (join a (item c b)) is (beside _ _ a (item c b) (optional_form first) (or_right (in_turn (has_role c Colon rc) (optional_form last))))
+  range_form (upper {xs} o) = alone _ _ xs (optional_form o) (former none)
+  range_form (stepped {xs} {a} {b} c is first rc last) = along _ xs (join a (item c b)) is (beside _ _ a (item c b) (optional_form first) (latter (in_turn (has_role c Colon rc) (optional_form last))))
 
   optional_form : {xs : Items} → IsOptional xs → Fits (maybe (the Table.Nonterminal.Test)) xs
-  optional_form nothing = or_left none
-  optional_form (some t) = or_right (test_form t)
+  optional_form nothing = former none
+  optional_form (some t) = latter (test_form t)
 
 -- statements
 expr_parts : {xs : Items} → IsExpr xs → Fits (production Table.Nonterminal.Expression) xs
@@ -199,8 +199,8 @@ string_form : {xs : Items} → IsString xs → Fits (any String) xs
 string_form (string {x} is) = has_role x Value is
 
 load_arg_form : {xs : Items} → IsLoadArg xs → AreOf Table.Nonterminal.LoadArgument xs
-load_arg_form (loaded s) = by_production (in_turn (or_left none) (string_form s))
-load_arg_form (renamed {n} {e} rn re s) = by_production (in_turn (or_right (in_turn (has_role n Name rn) (has_role e Equals re).0)) (string_form s))
+load_arg_form (loaded s) = by_production (in_turn (former none) (string_form s))
+load_arg_form (renamed {n} {e} rn re s) = by_production (in_turn (latter (in_turn (has_role n Name rn) (has_role e Equals re).0)) (string_form s))
 
 load_args_form : {segs : Segs} → AreLoadArgs segs → Has (each_segment Table.Nonterminal.LoadArgument) (contents segs)
 load_args_form no_load_arg = no_more
@@ -215,8 +215,8 @@ load_form : {xs : Items} → IsLoad xs → Fits (word (codes "load") then bracke
 load_form (load {w} is s args) = in_turn (load_word_form w is) (in_bracket (in_turn (in_segment (string_form s)) (load_args_form args)))
 
 pub statement_form : {xs : Items} → IsStatement xs → Table.IsStatement xs
-statement_form comments = by_production (or_left none)
-statement_form (expression e) = by_production (or_right (or_left (by_production (expr_parts e))))
+statement_form comments = by_production (former none)
+statement_form (expression e) = by_production (latter (former (by_production (expr_parts e))))
 statement_form (assigned {xs} {a} {b} s is first rs second) =
-    by_production (or_right (or_right (or_left (along _ xs (join a (item s b)) is (beside _ _ a (item s b) (by_production (expr_parts first)) (in_turn (assigning s (token_role s) refl rs) (by_production (expr_parts second))))))))
-statement_form (load_statement l) = by_production (or_right (or_right (or_right (load_form l))))
+    by_production (latter (latter (former (along _ xs (join a (item s b)) is (beside _ _ a (item s b) (by_production (expr_parts first)) (in_turn (assigning s (token_role s) refl rs) (by_production (expr_parts second))))))))
+statement_form (load_statement l) = by_production (latter (latter (latter (load_form l))))

@@ -12,7 +12,7 @@ use Rattle.bz_tree.specs.declared.grammar.role.Role.TheVariants.{Name, Number, V
 use Rattle.bz_tree.specs.Tree.{Item, leaf, group}
 use Rattle.bz_tree.specs.Statement.{augmented}
 use Rattle.bz_tree.specs.private.KindSteps.{is_augmented}
-use Rattle.bz_tree.specs.Grammar.{any, word, sign, prefix, star, assignment, binary, binary_signs, binary_words, Part, node, Has, of_kind, of_texts, or_left, or_right}
+use Rattle.bz_tree.specs.Grammar.{any, word, sign, prefix, star, assignment, binary, binary_signs, binary_words, Part, node, Has, of_kind, of_texts, former, latter}
 use Rattle.bz_tree.specs.private.Productions.{word_role, operator_role, is_infix, token_role}
 
 -- what each of some texts has, one of them has
@@ -81,12 +81,12 @@ operator_formed text =
     by_cond P (bytes_eq text (codes ",")) Comma _ (λ e. of_texts (at (codes ",") e)) (
     by_cond P (bytes_eq text (codes ":")) Colon _ (λ e. of_texts (at (codes ":") e)) (
     by_cond P (bytes_eq text (codes "=")) Equals _ (λ e. (of_texts (at (codes "=") e), of_texts (or_left (bytes_eq text (codes "=")) (is_one_of augmented text) e))) (
-    by_cond P (bytes_eq text (codes "~")) Tilde _ (λ e. or_left (of_texts (among (codes "~") prefix_signs refl text e))) (
-    by_cond P (bytes_eq text (codes "*")) Star _ (λ e. (of_texts (among (codes "*") stars refl text e), or_left (of_texts (among (codes "*") binary_signs refl text e)))) (
+    by_cond P (bytes_eq text (codes "~")) Tilde _ (λ e. former (of_texts (among (codes "~") prefix_signs refl text e))) (
+    by_cond P (bytes_eq text (codes "*")) Star _ (λ e. (of_texts (among (codes "*") stars refl text e), former (of_texts (among (codes "*") binary_signs refl text e)))) (
     by_cond P (bytes_eq text (codes "**")) Stars _ (λ e. of_texts (among (codes "**") stars refl text e)) (
-    by_cond P (is_one_of sums text) Sum _ (λ e. (or_left (of_texts (one_by_one (λ t. is_one_of prefix_signs t ≡ true) sums (refl, (refl, tt)) text e)), or_left (of_texts (one_by_one (λ t. is_one_of binary_signs t ≡ true) sums (refl, (refl, tt)) text e)))) (
+    by_cond P (is_one_of sums text) Sum _ (λ e. (former (of_texts (one_by_one (λ t. is_one_of prefix_signs t ≡ true) sums (refl, (refl, tt)) text e)), former (of_texts (one_by_one (λ t. is_one_of binary_signs t ≡ true) sums (refl, (refl, tt)) text e)))) (
     by_cond P (is_augmented text) Augmented _ (λ e. of_texts (or_right (bytes_eq text (codes "=")) (is_augmented text) e)) (
-    by_cond P (is_infix text) Operator Stray (λ e. or_left (of_texts (infix_known text e))) tt)))))))))
+    by_cond P (is_infix text) Operator Stray (λ e. former (of_texts (infix_known text e))) tt)))))))))
 
 word_formed : (text : List ℕ) → HasRole (word_role text) (node (leaf Keyword text))
 word_formed text =
@@ -95,10 +95,10 @@ word_formed text =
     by_cond P (bytes_eq text (codes "if")) If _ (λ e. of_texts (at (codes "if") e)) (
     by_cond P (bytes_eq text (codes "else")) Else _ (λ e. of_texts (at (codes "else") e)) (
     by_cond P (bytes_eq text (codes "for")) For _ (λ e. of_texts (at (codes "for") e)) (
-    by_cond P (bytes_eq text (codes "in")) In _ (λ e. (of_texts (at (codes "in") e), or_right (or_left (of_texts (among (codes "in") binary_words refl text e))))) (
+    by_cond P (bytes_eq text (codes "in")) In _ (λ e. (of_texts (at (codes "in") e), latter (former (of_texts (among (codes "in") binary_words refl text e))))) (
     by_cond P (bytes_eq text (codes "not")) Not _ (λ e. of_texts (at (codes "not") e)) (
     by_cond P (is_one_of connectives text) Operator Stray
-    (λ e. or_right (or_left (of_texts (one_by_one (λ t. is_one_of binary_words t ≡ true) connectives (refl, (refl, tt)) text e)))) tt)))))
+    (λ e. latter (former (of_texts (one_by_one (λ t. is_one_of binary_words t ≡ true) connectives (refl, (refl, tt)) text e)))) tt)))))
 
 formed : (x : Item) → HasRole (token_role x) (node x)
 formed (leaf Identifier text) = of_kind
