@@ -78,7 +78,7 @@ argument attr nodes = record { before = []; nodes = leaf Identifier attr ∷ lea
 
 -- the note where the attribute is there and has no list part
 abbrev pub no_list_note : List ℕ → Option Segment → Option Note
-no_list_note attr o = option_and_then (λ a. if is_empty (parts (value a)) then Some (NotAList attr) else None) o
+no_list_note attr = option_and_then (λ a. if is_empty (parts (value a)) then Some (NotAList attr) else None)
 
 -- the note where the attribute is absent
 abbrev pub absent_note : List ℕ → List Segment → Option Note

@@ -51,4 +51,4 @@ no_space_after within before x =
 -- the gap before x, where `first` stands before the first node
 abbrev pub gap_before : Option GroupKind → Gap → List Item → Item → Gap
 gap_before within first [] x = first
-gap_before within first (y ∷ before) x = if no_space_after within before y || no_space_before x then Closed else Space
+gap_before within first (y ∷ ys) x = if no_space_after within ys y || no_space_before x then Closed else Space

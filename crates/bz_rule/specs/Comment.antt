@@ -35,8 +35,7 @@ comment_rule text s = record s {
 
 -- `comment <attr> <text>`
 abbrev pub comment_attribute : List ℕ → List ℕ → List Segment → List Segment
-comment_attribute attr text args =
-    edit_first (is_named attr) (λ a. with_comment (comment_line text) a ∷ []) args
+comment_attribute attr text = edit_first (is_named attr) (λ a. with_comment (comment_line text) a ∷ [])
 
 -- an argument with the line above its first element of this value, in the first list part that has one
 abbrev pub comment_element : Package → List ℕ → List ℕ → Segment → Segment

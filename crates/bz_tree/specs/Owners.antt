@@ -51,14 +51,13 @@ is_beside _ _ = false
 -- the texts of such comments, where `before` stands before all
 abbrev pub beside : Option Inner → List Inner → List (List ℕ)
 beside before [] = []
-beside before (inner ∷ inners) =
-    (if is_beside before inner then texts_of inner else []) ++ beside (Some inner) inners
+beside before (here ∷ rest) = (if is_beside before here then texts_of here else []) ++ beside (Some here) rest
 
 -- the texts of the other comments
 abbrev pub on_own_lines : Option Inner → List Inner → List (List ℕ)
 on_own_lines before [] = []
-on_own_lines before (inner ∷ inners) =
-    (if is_beside before inner then [] else texts_of inner) ++ on_own_lines (Some inner) inners
+on_own_lines before (here ∷ rest) =
+    (if is_beside before here then [] else texts_of here) ++ on_own_lines (Some here) rest
 
 -- A bracket is cut into cells: what stands up to a comma, the comma, and the comment beside it. The last cell
 -- has no comma, if more stands after the last one.
