@@ -8,7 +8,7 @@ ghost use Rattle.bz_attribute.specs.Rules.{is_text};
 ghost use Rattle.bz_attribute.specs.private.Parts as spec;
 
 use crate::elements::ends_list;
-use crate::place::{argument_len, arguments_begin, comments_len};
+use crate::place::{arguments_begin, comments_len, segment_len};
 use bz_token::Kind;
 use bz_tree::Part;
 
@@ -51,7 +51,7 @@ pub fn find_argument(parts: &[Part<'_>], name: &str) -> Option<usize>
         if begins_with(argument, name) {
             return Some(nodes);
         }
-        at = nodes + argument_len(argument);
+        at = nodes + segment_len(argument);
     }
     None
 }
@@ -87,7 +87,7 @@ pub fn first_argument<'a>(parts: &[Part<'a>]) -> FirstArgument<'a>
     let own = &parts[nodes..];
     FirstArgument {
         nodes,
-        to: nodes + argument_len(own),
+        to: nodes + segment_len(own),
         name: name_in(own),
     }
 }

@@ -75,24 +75,6 @@ pub(crate) fn segment_len(parts: &[Part<'_>]) -> usize
     }
 }
 
-// The same of an argument: most that are no list are a name, `=` and one token.
-#[inline(always)]
-pub(crate) fn argument_len(parts: &[Part<'_>]) -> usize
-    ensures len { result ≡ spec.segment_len (map part_view parts.now) }
-    ensures within { result ≤ length parts.now }
-{
-    match parts {
-        [
-            Part::Token(_, _),
-            Part::Token(_, _),
-            Part::Token(_, _),
-            Part::End,
-            after @ ..,
-        ] => 4 + besides(after),
-        _ => segment_len(parts),
-    }
-}
-
 #[inline(never)]
 #[tactic(auto, using(crate::proofs::Slices::rest_seen))]
 fn long_segment_len(parts: &[Part<'_>]) -> usize

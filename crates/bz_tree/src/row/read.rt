@@ -18,7 +18,7 @@ use crate::tree::Stmt;
 use crate::tree::chunk::{parse, parse_tokens};
 use bumpalo::Bump;
 use bz_memory::NoMemory;
-use bz_token::{LexFault, Token, tokens_in};
+use bz_token::Token;
 use std::alloc::Global;
 
 // The row of a statement that has a tree.
@@ -84,38 +84,10 @@ fn read_tree<'a>(
     }
 }
 
-// The list of the tokens of a text of so many bytes at most is short.
-const SHORT: usize = 2048;
-
 /// Reads the row of the statement of a chunk from its text. The chunk's first line has this number, and at most so many
-/// brackets may be open at once. None: the chunk is blank. The rules are those of `parse`.
+/// brackets may be open at once. None: the chunk is blank. The rules are those of `parse`. The list of a long chunk's
+/// tokens takes more memory than its row, so it is made only where `row_of_text` has no row.
 pub fn read_text<'a>(
-    alloc: Global,
-    bump: &'a Bump,
-    text: &'a str,
-    first_line: u64,
-    max_depth: u8,
-) -> Result<Option<Row<'a>>, ParseFault>
-    requires { first_line + count_by (λ b. b == 10) text.now < 2 ^ 64 }
-    ensures statement { IfOk result (λ o. IfSome o (λ row.
-        (s : Statement) × IsStatementIn first_line max_depth text.now s × IsRowOf s row)) }
-    ensures blank { IfOk result (λ o. IfNone o (IsBlank first_line max_depth text.now)) }
-    ensures fault { IfErr result (IsFaultIn first_line max_depth text.now) }
-{
-    if text.len() > SHORT {
-        return read_long(alloc, bump, text, first_line, max_depth);
-    }
-    match tokens_in(bump, text, first_line, max_depth) {
-        Ok(tokens) => read_statement(alloc, bump, text, first_line, tokens),
-        Err(LexFault::OutOfMemory(why)) => Err(ParseFault::OutOfMemory(why)),
-        Err(fault) => Err(ParseFault::Lex(fault)),
-    }
-}
-
-// The same of a long text. The list of its tokens takes more memory than its row, so it is made only where `row_of_text`
-// has no row.
-#[inline(never)]
-fn read_long<'a>(
     alloc: Global,
     bump: &'a Bump,
     text: &'a str,

@@ -39,13 +39,13 @@ loop-at-preserved c =
     let token : ℕ = at + c.comments_len.result in
     let seen = rest_seen c.args.parts.now token in
     record {
-      within = omega (arith, c.comments_len.ensures.within, c.argument_len.ensures.within, c.loop-at.invariant.within);
+      within = omega (arith, c.comments_len.ensures.within, c.segment_len.ensures.within, c.loop-at.invariant.within);
       begun = search rules;
-      unnamed = one_unnamed c.args.name.now ps at token (token + c.argument_len.result) c.loop-at.invariant.unnamed
+      unnamed = one_unnamed c.args.name.now ps at token (token + c.segment_len.result) c.loop-at.invariant.unnamed
           (ap (λ (n : ℕ). at + n) (c.comments_len.ensures.len ∙ ap above_len (rest_seen c.args.parts.now at)))
           (ap ends_list (sym seen) ∙ sym c.ends_list.ensures ∙ c.if-ends_list.false)
           (ap (λ (qs : List RowPart). is_text c.args.name.now (flat_name qs)) (sym seen) ∙ sym c.begins_with.ensures ∙ c.if-begins_with.false)
-          (ap (λ (n : ℕ). token + n) (c.argument_len.ensures.len ∙ ap segment_len seen));
+          (ap (λ (n : ℕ). token + n) (c.segment_len.ensures.len ∙ ap segment_len seen));
     }
 
 pub returns-clause-first : goal.returns-clause-first

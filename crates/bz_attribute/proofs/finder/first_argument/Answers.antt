@@ -9,5 +9,5 @@ pub returns-clause-argument : goal.returns-clause-argument
 returns-clause-argument c a others are =
     let n : ℕ = c.comments_len-nodes.result in
     is_first a others (map part_view c.args.parts.now) n _ _ are c.comments_len-nodes.ensures.len
-    (ap (λ (k : ℕ). n + k) (c.argument_len.ensures.len ∙ ap segment_len (rest_seen c.args.parts.now n)))
+    (ap (λ (k : ℕ). n + k) (c.segment_len.ensures.len ∙ ap segment_len (rest_seen c.args.parts.now n)))
     (c.name_in.ensures ∙ ap flat_name (rest_seen c.args.parts.now n))
