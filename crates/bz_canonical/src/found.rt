@@ -29,25 +29,23 @@ pub struct FoundRule<'a> {
     pub end: u64,
 }
 
-impl<'a> FoundRule<'a> {
-    /// Its kind, which stands before its bracket, after the comments above it.
-    pub fn kind(&self) -> Option<&'a str>
-        ensures { IfSome result (λ kind. (depth : ℕ) (names : List (List ℕ)) (r : NamedRule) (stands : List (List ℕ))
-            → IsSpannedIn depth names r stands self.now.chunk.now self.now.rule.written.now self.now.rule.spans.now
-            → kind.now ≡ r.kind) }
-    {
-        let [name, ..] = self.rule.spans else {
-            return None;
-        };
-        let (front, _) = self.chunk.split_at_checked(name.from)?;
-        let line = after_comments_above(front.as_bytes());
-        if begins_with(line, b'#') {
-            return None;
-        }
-        let from = front.len().checked_sub(line.len())?;
-        let to = front.len().checked_sub(1)?;
-        between(front, from, to)
+/// The kind of the rule of this chunk, whose arguments have these spans. It stands before the bracket, after the comments
+/// above the rule.
+pub fn kind_of<'a>(chunk: &'a str, spans: &[ArgumentSpan]) -> Option<&'a str>
+    ensures { IfSome result (λ kind. (depth : ℕ) (names : List (List ℕ)) (r : NamedRule) (stands : List (List ℕ))
+        (written : List ℕ) → IsSpannedIn depth names r stands chunk.now written spans.now → kind.now ≡ r.kind) }
+{
+    let [name, ..] = spans else {
+        return None;
+    };
+    let (front, _) = chunk.split_at_checked(name.from)?;
+    let line = after_comments_above(front.as_bytes());
+    if begins_with(line, b'#') {
+        return None;
     }
+    let from = front.len().checked_sub(line.len())?;
+    let to = front.len().checked_sub(1)?;
+    between(front, from, to)
 }
 
 /// Where texts and lists of it stand.

@@ -42,7 +42,7 @@ use bz_memory::NoMemory;
 pub use chunk::{AsksOfRules, CanonicalChunk, read_canonical};
 pub use commented::{CommentPlace, comment_place};
 pub use edited::EditedList;
-pub use found::{FoundRule, Room, seal};
+pub use found::{FoundRule, Room, kind_of, seal};
 pub use place::{ArgumentPlace, argument_place};
 pub use removed::put_removed;
 pub use replaced::put_replaced;

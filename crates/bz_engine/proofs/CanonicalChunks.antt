@@ -25,7 +25,7 @@ use Rattle.bz_engine.specs.Progress.{Progress}
 use Rattle.bz_engine.specs.declared.canonical.Found.{Found}
 use Rattle.bz_engine.specs.declared.next_chunk.NextChunk.{NextChunk}
 use Rattle.bz_engine.specs.private.Edits.{DoesNothing, EditsChunk, EditsWhole, IsEdited}
-use Rattle.bz_engine.specs.private.Found.{HasItsSpans, IsFoundOn}
+use Rattle.bz_engine.specs.private.Found.{HasItsSpans, HasNotedSpans, IsFoundOn}
 use Rattle.bz_engine.specs.private.NextChunks.{IsFirstEdited, IsKnownEdited}
 use Rattle.bz_engine.specs.private.Rows.{HasKey}
 use Rattle.bz_engine.specs.private.Sealed.{asked_names}
@@ -75,11 +75,12 @@ few_lines line chunk = omega (arith, count_by-le-length (λ b. b == 10) chunk)
 
 -- the statement that is read of the chunk
 pub found_read : (line depth : ℕ) (found : Found) (read : IsReadBack line depth found.chunk.class (option_map (λ name. name.now) found.chunk.name) (option_map (λ kind. kind.now) found.chunk.kind) found.chunk.chunk.now found.chunk.written.now)
-    → IfSome (option_map between found.place) (HasPlace depth found.attr.now read.statement) → IsFoundOn depth line found read.statement
-found_read line depth found read has =
+    → IfSome (option_map between found.place) (HasPlace depth found.attr.now read.statement) → (IsTrue found.chunk.noted → HasNotedSpans depth found read.statement)
+    → IsFoundOn depth line found read.statement
+found_read line depth found read has spanned =
     let s = read.statement in
     record {
-      is = record { class = chunk_class line found.chunk.chunk.now read.read.tokens s read.read.reads.chunk; class_is = read.class_is; named = read.named; nameless = read.nameless; written = read.written; has = has };
+      is = record { class = chunk_class line found.chunk.chunk.now read.read.tokens s read.read.reads.chunk; class_is = read.class_is; named = read.named; nameless = read.nameless; written = read.written; has = has; spanned = spanned };
       read = read.read;
     }
 
@@ -91,11 +92,14 @@ pub spans_found : (depth : ℕ) (passes : Script) (chunk : CanonicalChunk) (foun
 spans_found depth passes chunk found text spans chunk_is spans_are placed c noted = record {
   read = λ first.
       let read = subst (λ (k : CanonicalChunk). IsReadBack first depth k.class (option_map (λ name. name.now) k.name) (option_map (λ kind. kind.now) k.kind) k.chunk.now k.written.now) (sym chunk_is) (c.read first) in
-      (read.statement, found_read first depth found read (by found.place placed read.statement (subst (λ (k : CanonicalChunk). IsStatementIn first depth k.chunk.now read.statement) chunk_is read.read)));
-  spans = subst (λ (k : CanonicalChunk). IsTrue k.noted → AreSpansOf depth (asked_names passes) k.chunk.now k.written.now found.spans.now) (sym chunk_is)
-      (subst (λ (ss : List ArgumentSpan). IsTrue chunk.noted → AreSpansOf depth (asked_names passes) chunk.chunk.now chunk.written.now ss) (sym spans_are) noted);
+      (read.statement, found_read first depth found read (by found.place placed read.statement (subst (λ (k : CanonicalChunk). IsStatementIn first depth k.chunk.now read.statement) chunk_is read.read))
+      (λ known. (first, (asked_names passes, all known first read.statement read.read))));
+  spans = all;
 }
   where
+    all : IsTrue found.chunk.noted → AreSpansOf depth (asked_names passes) found.chunk.chunk.now found.chunk.written.now found.spans.now
+    all = subst (λ (k : CanonicalChunk). IsTrue k.noted → AreSpansOf depth (asked_names passes) k.chunk.now k.written.now found.spans.now) (sym chunk_is)
+        (subst (λ (ss : List ArgumentSpan). IsTrue chunk.noted → AreSpansOf depth (asked_names passes) chunk.chunk.now chunk.written.now ss) (sym spans_are) noted)
     by : (place : Option ArgumentPlace) → IfSome place (λ place. IsTrue chunk.noted × ((first depth : ℕ) (s : Statement) → HasSpans first depth (asked_names passes) s chunk.chunk.now chunk.written.now spans → HasPlace depth found.attr.now s (between place)))
         → {first : ℕ} (s : Statement) → IsStatementIn first depth chunk.chunk.now s → IfSome (option_map between place) (HasPlace depth found.attr.now s)
     by None placed s read = tt

@@ -34,10 +34,10 @@ some_spans names n m a args (l ∷ ls) [] are = absurd are
 some_spans names n m a args (l ∷ ls) (span ∷ spans) are = omega arith
 
 -- the rule that its statement is
-abbrev the_rule : NamedRule → Rule
+abbrev pub the_rule : NamedRule → Rule
 the_rule r = record { kind = leaf Identifier r.kind ∷ []; args = name_argument r.name ∷ r.args; one_comma = false; end = r.end }
 
-read_rule : (r : NamedRule) → rule_of (statement_of r).nodes ≡ Some (the_rule r)
+pub read_rule : (r : NamedRule) → rule_of (statement_of r).nodes ≡ Some (the_rule r)
 read_rule r = ap (λ (all : List Segment). Some (record { kind = leaf Identifier r.kind ∷ []; args = all; one_comma = false; end = r.end })) (segments_of (name_argument r.name ∷ r.args))
 
 -- a head of this kind, name and lines

@@ -5,13 +5,13 @@ ghost use Rattle.bz_tree.specs.Tree.{Statement};
 ghost use Rattle.bz_attribute.specs.Marks.{marks};
 ghost use Rattle.bz_attribute.specs.Rules.{Rule, rule_of};
 ghost use Rattle.bz_canonical.specs.Canonical.{HasName};
-ghost use Rattle.bz_engine.specs.private.Found.{HasItsSpans, IsFound, IsFoundOn, IsMarked, IsWithout, LeavesRule, Makes, told_line};
+ghost use Rattle.bz_engine.specs.private.Found.{HasItsSpans, IsFound, IsFoundOn, IsMarked, IsOfKind, IsWithout, LeavesRule, Makes, told_line};
 
 use crate::canonical::Found;
 use crate::edit::ScriptRun;
 use crate::names::position_of;
 use bz_attribute::Env;
-use bz_canonical::{SpannedRule, argument_place};
+use bz_canonical::{SpannedRule, argument_place, kind_of};
 use bz_label::{Marked, Target};
 use bz_memory::NoMemory;
 use bz_rule::commands::print::print_name;
@@ -124,12 +124,28 @@ pub(crate) fn is_without_by_spans(script: ScriptRun<'_>, found: &Found<'_>, attr
 pub(crate) fn marks_found(target: &Target, found: &Found<'_>) -> bool
     ensures { IsTrue result → (depth : ℕ) → IsMarked depth target.now found.now }
 {
+    if let Marked::Kind(kind) = target.marked() {
+        return is_of_kind(found, kind);
+    }
     if let Some(name) = found.chunk.name {
         return marks_name(target, name);
     }
     // What has a kind is a rule.
     match found.chunk.kind {
         Some(_) => marks_rules(target),
+        None => false,
+    }
+}
+
+/// The chunk is a rule of this kind, as the spans of its arguments show.
+fn is_of_kind(found: &Found<'_>, kind: &str) -> bool
+    ensures { IsTrue result → (depth : ℕ) (s : Statement) → IsFound depth found.now s → IsOfKind kind.now s }
+{
+    if !found.chunk.noted {
+        return false;
+    }
+    match kind_of(found.chunk.chunk, found.spans) {
+        Some(its_kind) => its_kind == kind,
         None => false,
     }
 }

@@ -17,7 +17,7 @@ use crate::progress::Progress;
 use crate::row::is_passed_by;
 use crate::written::put_canonical;
 use bz_attribute::Head;
-use bz_canonical::{FoundRule, Room, SpannedRule, seal};
+use bz_canonical::{FoundRule, Room, SpannedRule, kind_of, seal};
 use bz_memory::NoMemory;
 use bz_rule::StatementRow;
 
@@ -130,7 +130,7 @@ fn noted_rule<'f>(found: &Found<'f>, line: u64, lines: u64) -> Option<HeadedRule
         end,
     };
     let head = Head {
-        kind: rule.kind()?,
+        kind: kind_of(chunk, found.spans)?,
         name: found.chunk.name,
         start,
         end,

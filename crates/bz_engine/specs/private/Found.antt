@@ -11,10 +11,10 @@ use Rattle.bz_attribute.specs.declared.done.Note.{Note}
 use Rattle.bz_attribute.specs.Texts.{shown_text}
 use Rattle.bz_engine.specs.Language.{fails, meaning, note_told}
 use Rattle.bz_label.specs.Labels.{Package, Target}
-use Rattle.bz_attribute.specs.Rules.{first_named, rule_of}
+use Rattle.bz_attribute.specs.Rules.{Rule, first_named, kind_text, rule_of}
 use Rattle.bz_attribute.specs.Marks.{marks}
 use Rattle.bz_canonical.specs.Canonical.{HasName, HasPlace, IsNameless, between, rule_args, rule_name}
-use Rattle.bz_canonical.specs.Spans.{AreSpansOf, IsSpannedIn, NamedRule}
+use Rattle.bz_canonical.specs.Spans.{AreSpansOf, HasSpans, IsSpannedIn, NamedRule}
 use Rattle.bz_canonical.specs.declared.spans.ArgumentSpan.{ArgumentSpan}
 use Rattle.bz_token.specs.Places.{line_at}
 use Rattle.bz_rule.specs.Commands.{Command, after, done_of}
@@ -59,6 +59,10 @@ pub record IsRuleFound (line : ℕ) (found : Found) (noted : HeadedRule) : Type 
   pub begins_on : noted.head.start ≡ noted.rule.start
   pub ends_on : noted.head.end ≡ noted.rule.end
 
+-- the arguments of the statement have the spans that were noted
+abbrev pub HasNotedSpans : ℕ → Found → Statement → Type 0
+HasNotedSpans depth found s = (first : ℕ) × (names : List (List ℕ)) × HasSpans first depth names s found.chunk.chunk.now found.chunk.written.now found.spans.now
+
 -- the statement of the chunk
 pub record IsFound (depth : ℕ) (found : Found) (s : Statement) : Type 0 where
   pub class : s.class ≡ class_of s.nodes
@@ -67,6 +71,7 @@ pub record IsFound (depth : ℕ) (found : Found) (s : Statement) : Type 0 where
   pub nameless : IfSome (option_map (λ kind. kind.now) found.chunk.kind) (λ k. IsNameless k s.nodes)
   pub written : layout_text s ≡ found.chunk.written.now
   pub has : IfSome (option_map between found.place) (HasPlace depth found.attr.now s)
+  pub spanned : IsTrue found.chunk.noted → HasNotedSpans depth found s
 
 -- the same, where the chunk begins on this line
 pub record IsFoundOn (depth line : ℕ) (found : Found) (s : Statement) : Type 0 where
@@ -81,6 +86,12 @@ pub record HasItsSpans (depth : ℕ) (passes : Script) (found : Found) : Type 0 
 -- a rule has the name that another has
 abbrev pub KeepsName : Statement → Statement → Type 0
 KeepsName s t = HasName (rule_name (rule_of s.nodes)) t
+
+-- a rule of this kind
+pub record IsOfKind (kind : List ℕ) (s : Statement) : Type 0 where
+  pub rule : Rule
+  pub rule_is : rule_of s.nodes ≡ Some rule
+  pub kind_is : kind_text rule.kind ≡ kind
 
 -- the target marks the statement of the chunk
 abbrev pub IsMarked : ℕ → Target → Found → Type 0
