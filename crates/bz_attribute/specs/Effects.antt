@@ -1,5 +1,6 @@
--- What commands do to the arguments of a rule, as far as several do it: notes, the elements that a command means, new
--- nodes, and the edit of a rule's arguments (buildozer README, edit commands; the failures are this project's own rule).
+-- What commands do to the arguments of a rule, as far as several do it: notes, the elements that a command
+-- means, new nodes, and the edit of a rule's arguments (buildozer README, edit commands; the failures are
+-- this project's own rule).
 -- Begin with `with_args`.
 use Rattle.std.specs.Prelude.{ℕ, List, [], ◌∷◌, ◌++◌, Bool, true, false, ◌&&◌, not, if◌then◌else◌, Option, Some, None, is_some, filter, codes, option_and_then}
 use Rattle.std.specs.List.{list_any}
@@ -26,14 +27,15 @@ done (Some note) changed = record { changed = false; line = None; note = Some no
 abbrev pub has : List ℕ → List Segment → Bool
 has attr args = list_any (is_named attr) args
 
--- the first that passes is edited, into none or more
+-- a list whose first member that passes p is edited: f puts none, one or more in its place
 abbrev pub edit_first : {X : Type 0} → (X → Bool) → (X → List X) → List X → List X
 edit_first p f [] = []
 edit_first p f (x ∷ xs) = if p x then f x ++ xs else x ∷ edit_first p f xs
 
--- the first list part that passes is edited
+-- a value whose first list part that passes p is edited by f
 abbrev pub edit_part : (List Segment → Bool) → (List Segment → List Segment) → List Item → List Item
-edit_part p f nodes = sum_of (edit_first (λ piece. map_or false p (only_list piece)) (λ piece. edit_piece f piece ∷ []) (pieces nodes))
+edit_part p f nodes = sum_of
+    (edit_first (λ piece. map_or false p (only_list piece)) (λ piece. edit_piece f piece ∷ []) (pieces nodes))
 
 -- a segment with this line as the last of the comments above it
 abbrev pub with_comment : List ℕ → Segment → Segment
@@ -44,7 +46,7 @@ abbrev pub is_chosen : Package → Chosen → Segment → Bool
 is_chosen home All s = true
 is_chosen home (Values values) s = list_any (λ word. equals home word s) values
 
--- the elements that it does not mean
+-- the elements that the command does not mean
 abbrev pub unchosen : Package → Chosen → List Segment → List Segment
 unchosen home chosen ss = filter (λ s. not (is_chosen home chosen s)) ss
 
@@ -56,7 +58,8 @@ chooses home chosen a = list_any (list_any (is_chosen home chosen)) (parts (valu
 abbrev pub loses_all : (List Segment → List Segment) → List Item → Bool
 loses_all f nodes = map_or false (λ ss. not (is_empty ss) && is_empty (f ss)) (only_list nodes)
 
--- an argument whose elements f filters; nothing, where its whole value was one list that lost its last element
+-- an argument whose elements f filters; nothing, where its whole value was one list that lost its last
+-- element
 abbrev pub filtered : (List Segment → List Segment) → Segment → List Segment
 filtered f a = if loses_all f (value a) then [] else with_value (edit_parts f (value a)) a ∷ []
 
@@ -64,19 +67,20 @@ filtered f a = if loses_all f (value a) then [] else with_value (edit_parts f (v
 abbrev pub string_item : List ℕ → Item
 string_item v = leaf String (quoted v)
 
--- a new element
+-- a new element: a string without comments
 abbrev pub string : List ℕ → Segment
 string v = record { before = []; nodes = string_item v ∷ []; suffix = None }
 
--- a new list
+-- the node of a new list
 abbrev pub list_item : List Segment → Item
 list_item ss = group ListKind (segs_of ss) false []
 
--- a new argument
+-- a new argument: a name and the nodes of its value
 abbrev pub argument : List ℕ → List Item → Segment
-argument attr nodes = record { before = []; nodes = leaf Identifier attr ∷ leaf Operator (codes "=") ∷ nodes; suffix = None }
+argument attr nodes =
+    record { before = []; nodes = leaf Identifier attr ∷ leaf Operator (codes "=") ∷ nodes; suffix = None }
 
--- the note where the attribute is there and has no list part
+-- the note (`Note`, in `src/done.rt`) where the attribute is there and has no list part
 abbrev pub no_list_note : List ℕ → Option Segment → Option Note
 no_list_note attr = option_and_then (λ a. if is_empty (parts (value a)) then Some (NotAList attr) else None)
 
@@ -88,9 +92,11 @@ absent_note attr args = if has attr args then None else Some (NoAttribute attr)
 abbrev pub nodes_of : Rule → List Item
 nodes_of r = r.kind ++ group RuleCall (segs_of r.args) r.one_comma r.end ∷ []
 
--- a statement with f of its rule's arguments; what is no rule stays, and so does the rest of a rule
+-- a statement whose rule has its arguments edited by f; what is no rule stays, and so does the rest of a rule
 abbrev pub with_args : (List Segment → List Segment) → Statement → Statement
-with_args f s = record s { nodes = map_or s.nodes (λ r. nodes_of (record r { args = f r.args })) (rule_of s.nodes) }
+with_args f s = record s {
+  nodes = map_or s.nodes (λ r. nodes_of (record r { args = f r.args })) (rule_of s.nodes);
+}
 
 abbrev pub slot_done : (List Segment → Done) → Option Statement → Done
 slot_done f slot = map_or (done None false) (λ s. map_or (done None false) (λ r. f r.args) (rule_of s.nodes)) slot

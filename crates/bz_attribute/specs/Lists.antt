@@ -10,7 +10,7 @@ use Rattle.bz_label.specs.Same.{completed}
 use Rattle.bz_attribute.specs.Rules.{name_of, string_value}
 use Rattle.bz_token.specs.Common.{map_or}
 
--- the two are the same label
+-- two texts are the same label in the package `home`
 abbrev pub same : Package → List ℕ → List ℕ → Bool
 same home a b = bytes_eq (completed home a) (completed home b)
 
@@ -29,7 +29,7 @@ may_be_in_sum _ = true
 abbrev pub is_plus : Item → Bool
 is_plus x = is_operator_item (codes "+") x
 
--- the elements of what is one list
+-- the elements of a value, or of a piece of one, that is one list
 abbrev pub only_list : List Item → Option (List Segment)
 only_list (group ListKind segs one_comma end ∷ []) = Some (segments segs)
 only_list _ = None
@@ -47,12 +47,12 @@ sum_of pieces = join_by (λ piece. piece) (leaf Operator (codes "+") ∷ []) pie
 abbrev pub parts : List Item → List (List Segment)
 parts nodes = filter_map only_list (pieces nodes)
 
--- a list part edited; any other piece stays
+-- a piece of a value: a list part is edited by f, any other piece stays
 abbrev pub edit_piece : (List Segment → List Segment) → List Item → List Item
 edit_piece f (group ListKind ss comma end ∷ []) = group ListKind (segs_of (f (segments ss))) comma end ∷ []
 edit_piece f piece = piece
 
--- each list part edited
+-- a value of which each list part is edited by f
 abbrev pub edit_parts : (List Segment → List Segment) → List Item → List Item
 edit_parts f nodes = sum_of (map (edit_piece f) (pieces nodes))
 

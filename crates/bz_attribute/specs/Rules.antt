@@ -13,7 +13,7 @@ abbrev pub ident_of : Item → Option (List ℕ)
 ident_of (leaf Identifier text) = Some text
 ident_of _ = None
 
--- whether it is this text
+-- an option holds this text
 abbrev pub is_text : List ℕ → Option (List ℕ) → Bool
 is_text text None = false
 is_text text (Some other) = bytes_eq text other

@@ -31,8 +31,8 @@ pub record IsReadOn (max_reads : ℕ) (old new : Ahead) (pieces : List (List ℕ
 abbrev pub MayFollow : Ahead → List ℕ → Type 0
 MayFollow ahead rest = IsTrue ahead.ended → rest ≡ []
 
--- The first n bytes ahead are the next chunk, whatever follows. It has at most so many bytes, and at most
--- 8,192 are left after it.
+-- The first n bytes ahead are the next chunk, whatever follows. It has at most `max_statement` bytes, and at
+-- most 8,192 are left after it, as many as one read gives at most.
 pub record IsNextChunk (max_statement : ℕ) (ahead : Ahead) (n : ℕ) : Type 0 where
   pub some : 0 < n
   pub within : n ≤ length ahead.bytes

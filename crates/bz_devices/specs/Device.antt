@@ -10,7 +10,7 @@ use Rattle.std.specs.List.{concat, last_or, AllByRecursion}
 abbrev pub ends : List (List ℕ) → Bool
 ends pieces = map_or false is_empty (last_or None pieces)
 
--- none of these reads met the end of the input
+-- None of these reads met the end of the input: each gave a byte.
 abbrev pub NoneEnds : List (List ℕ) → Type 0
 NoneEnds pieces = AllByRecursion (λ piece. 0 < length piece) pieces
 

@@ -5,7 +5,7 @@ use Rattle.std.specs.Prelude.{◌≡◌, ℕ, IsTrue, List, [], ◌++◌}
 use Rattle.bz_devices.specs.Device.{ends}
 use Rattle.std.specs.List.{concat}
 
--- This is the answer for each file that begins with what the reads gave; if they met the end, for that text
--- alone.
+-- `Answer` holds of each file that begins with what the reads gave, whatever `rest` follows; if they met the
+-- end, nothing does, and it holds of that text alone.
 pub record ForEveryFile (pieces : List (List ℕ)) (Answer : List ℕ → Type 0) : Type 0 where
   pub each : (rest : List ℕ) → (IsTrue (ends pieces) → rest ≡ []) → Answer (concat pieces ++ rest)

@@ -13,12 +13,13 @@ use Rattle.bz_tree.specs.declared.fault.ParseFault.TheVariants.{OutOfMemory}
 use Rattle.bz_engine.specs.declared.report.SyntaxFault.{SyntaxFault}
 use Rattle.bz_engine.specs.declared.report.SyntaxFault.TheVariants.{NotUtf8, Parse}
 
--- the fault of bytes of which the first n are UTF-8 and no more are: the place of the next one
+-- the fault of bytes of which the first n are UTF-8 and no more are: it is at the place of the next byte,
+-- where the bytes begin on this line
 abbrev pub not_utf8 : ℕ → ℕ → List ℕ → SyntaxFault
 not_utf8 line n bytes = NotUtf8 (line_at line (take n bytes)) (column_at (take n bytes))
 
--- What a chunk gives, read by itself with its first line: a statement, nothing where it is blank, or its
--- first fault.
+-- The answer for a chunk, which is read by itself from the number of its first line: a statement, nothing
+-- where it is blank, or its first fault.
 abbrev pub IsAnswerOf : ℕ → ℕ → List ℕ → Result (Option Statement) SyntaxFault → Type 0
 IsAnswerOf max_depth line chunk (Ok (Some s)) = IsUtf8 chunk × IsStatementIn line max_depth chunk s
 IsAnswerOf max_depth line chunk (Ok None) = IsUtf8 chunk × IsBlank line max_depth chunk
@@ -27,8 +28,8 @@ IsAnswerOf max_depth line chunk (Err (NotUtf8 l c)) =
 IsAnswerOf max_depth line chunk (Err (Parse fault)) =
     IsUtf8 chunk × IsFaultIn line max_depth chunk fault × (fault ≢ OutOfMemory no_memory)
 
--- What such an answer and the chunks after it give together; `After` says it of those alone. A fault ends the
--- list.
+-- A chunk with such an answer and the chunks after it have these statements and this fault together; `After`
+-- says what the chunks after it have by themselves. A fault ends the list.
 abbrev pub Follows : Result (Option Statement) SyntaxFault → (List Statement → Option SyntaxFault → Type 0)
     → List Statement → Option SyntaxFault → Type 0
 Follows (Err f) After statements fault = (statements ≡ []) × (fault ≡ Some f)
@@ -36,13 +37,14 @@ Follows (Ok None) After statements fault = After statements fault
 Follows (Ok (Some s)) After statements fault =
     (more : List Statement) × (statements ≡ s ∷ more) × After more fault
 
--- The chunks, of which the first begins at this line, have these statements before the first fault.
+-- The chunks, of which the first begins at this line, have these statements before their first fault, if
+-- there is one.
 abbrev pub AreStatementsOf : ℕ → ℕ → List (List ℕ) → List Statement → Option SyntaxFault → Type 0
 AreStatementsOf max_depth line [] statements fault = (statements ≡ []) × (fault ≡ None)
 AreStatementsOf max_depth line (c ∷ cs) statements fault =
     (answer : Result (Option Statement) SyntaxFault) × IsAnswerOf max_depth line c answer
     × Follows answer (AreStatementsOf max_depth (line_at line c) cs) statements fault
 
--- The file has these statements before its first fault. Lines count from 1.
+-- The file has these statements before its first fault, or before its end if it has none. Lines count from 1.
 abbrev pub IsFile : ℕ → List ℕ → List Statement → Option SyntaxFault → Type 0
 IsFile max_depth bytes statements fault = AreStatementsOf max_depth 1 (chunks bytes) statements fault

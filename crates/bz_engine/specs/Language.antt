@@ -17,12 +17,12 @@ use Rattle.bz_passes.specs.Entries.{failure_text}
 use Rattle.bz_engine.specs.Messages.{not_found_text, note_entry}
 use Rattle.bz_passes.specs.Passes.{Meaning, Slot}
 
--- what is told of a note, if there is one
+-- what is told of a note on a rule that is shown so, if there is a note
 abbrev pub note_told : List ℕ → Option Note → List Entry
 note_told rule note = map (note_entry rule) (option_to_list note)
 
--- The language. An empty slot is never marked. A command says the line that it prints, and then its note,
--- with the rule shown as the command finds it.
+-- The language of BUILD files in the package `home`, as stop 2 asks for one. An empty slot is never marked. A
+-- command says the line that it prints, and then its note, with the rule shown as the command finds it.
 abbrev pub meaning : Package → Meaning Statement Target Command Entry
 meaning home = record {
   marks = λ target slot. map_or false (marks target) slot;

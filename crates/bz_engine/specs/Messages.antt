@@ -1,4 +1,5 @@
--- The texts of messages (this project's own rule): a rule is shown by its label, a fault by its line and column.
+-- The texts of messages (this project's own rule): a rule is shown by its label, a fault by its line and
+-- column.
 -- Begin with `fault_text`, `note_entry` and `not_found_text`.
 use Rattle.std.specs.Prelude.{ℕ, List, ◌++◌, codes}
 use Rattle.std.specs.Fmt.{decimal}
@@ -14,27 +15,31 @@ use Rattle.bz_attribute.specs.Texts.{home_text, target_text}
 use Rattle.bz_engine.specs.declared.report.SyntaxFault.{SyntaxFault}
 use Rattle.bz_engine.specs.declared.report.SyntaxFault.TheVariants.{NotUtf8, Parse}
 
--- a target that had to mark something and marked nothing
+-- the text of a failure: a target had to mark something and marked nothing
 abbrev pub not_found_text : Package → Target → List ℕ
 not_found_text home target = (home_text home ++ target_text target) ++ codes ": no such rule"
 
--- what is told of a note on a rule, which is shown as the command found it: whether it is a warning or a failure, and its text
+-- what is told of a note on a rule (`Note`, in `src/done.rt` of bz_attribute): whether it is a warning or a
+-- failure, and its text, which begins with the text that shows the rule as the command found it (`rule`)
 abbrev pub note_entry : List ℕ → Note → Entry
 note_entry rule (Missing attr) = Warning (rule ++ codes ": no attribute '" ++ attr ++ codes "' to print")
 note_entry rule (NoAttribute attr) = Failure (rule ++ codes ": no attribute '" ++ attr ++ codes "'")
-note_entry rule (AttributeExists attr) = Failure (rule ++ codes ": attribute '" ++ attr ++ codes "' is already there")
+note_entry rule (AttributeExists attr) =
+    Failure (rule ++ codes ": attribute '" ++ attr ++ codes "' is already there")
 note_entry rule (NotAList attr) = Failure (rule ++ codes ": attribute '" ++ attr ++ codes "' has no list")
-note_entry rule (NoValue a v) = Failure (rule ++ codes ": no value '" ++ v ++ codes "' in attribute '" ++ a ++ codes "'")
+note_entry rule (NoValue attr value) =
+    Failure (rule ++ codes ": no value '" ++ value ++ codes "' in attribute '" ++ attr ++ codes "'")
 
--- a fault at a line and a column
+-- the text of a fault at a line and a column
 abbrev pub placed : ℕ → ℕ → List ℕ → List ℕ
 placed line col what = decimal line ++ codes ":" ++ decimal col ++ codes ": " ++ what
 
--- a fault of a line
+-- the text of a fault of a whole line
 abbrev pub lined : ℕ → List ℕ → List ℕ
 lined line what = decimal line ++ codes ": " ++ what
 
--- The texts of faults. `OutOfMemory` is the fault of no file: `IsAnswerOf` and `IsFaultIn` (stop 7) leave it out.
+-- the text of a lexical fault (`LexFault`, in `src/fault.rt` of bz_token). Want of memory, here and below, is
+-- the fault of no file: `IsAnswerOf` and `IsFaultIn` (stop 7) leave it out.
 abbrev pub lex_text : LexFault → List ℕ
 lex_text (OutOfMemory _) = codes "out of memory"
 lex_text (BadCharacter line col) = placed line col (codes "bad character")
@@ -45,6 +50,7 @@ lex_text (OpenBracket line col) = placed line col (codes "bracket is not closed"
 lex_text (TooDeep line col) = placed line col (codes "brackets too deep")
 lex_text (BadBackslash line col) = placed line col (codes "bad backslash")
 
+-- the text of a file's first fault (`SyntaxFault`, in `src/report.rt`)
 abbrev pub fault_text : SyntaxFault → List ℕ
 fault_text (NotUtf8 line col) = placed line col (codes "not UTF-8")
 fault_text (Parse (parse.OutOfMemory _)) = codes "out of memory"

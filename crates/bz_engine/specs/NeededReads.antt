@@ -12,16 +12,20 @@ use Rattle.bz_engine.specs.declared.options.Options.{Options}
 use Rattle.bz_engine.specs.File.{AreStatementsOf}
 use Rattle.bz_engine.specs.Outcome.{Script, Run, run_with, some_failure}
 
--- Reads gave these pieces. Each file that begins with them (where their end was met, that file) begins with these chunks, the
--- `front`, the first on line 1. They have these statements and do not end the run. These bytes are left of the pieces.
-pub record AreDone (run : Run) (pieces front : List (List ℕ)) (statements : List Statement) (left : List ℕ) : Type 0 where
+-- The chunks `front` are done, after reads that gave these pieces. Each file that begins with the pieces
+-- begins with these chunks, whatever `rest` follows (nothing, where the end was met). The first of them
+-- begins on line 1. They have these statements and no fault, and do not end the run. The bytes `left` of the
+-- pieces stand after them.
+pub record AreDone (run : Run) (pieces front : List (List ℕ)) (statements : List Statement)
+    (left : List ℕ) : Type 0 where
   pub bytes_are : concat pieces ≡ concat front ++ left
-  pub chunks_are : (rest : List ℕ) → (IsTrue (ends pieces) → rest ≡ []) → chunks (concat pieces ++ rest) ≡ front ++ chunks (left ++ rest)
+  pub chunks_are : (rest : List ℕ) → (IsTrue (ends pieces) → rest ≡ [])
+      → chunks (concat pieces ++ rest) ≡ front ++ chunks (left ++ rest)
   pub read : AreStatementsOf run.max_depth 1 front statements None
   pub none_fails : run.keep_going ≡ false → some_failure run.home run.passes statements ≡ false
 
--- After these reads another was needed: none of them met the end, and these bytes, which are left after the chunks that are
--- done, leave the next chunk open.
+-- After reads that gave these pieces another was needed: none of them met the end of the input (`going`), and
+-- the bytes `left`, which stand after the chunks that are done (`front`), leave the next chunk open.
 pub record IsOneNeeded (run : Run) (max_statement : ℕ) (pieces : List (List ℕ)) (left : List ℕ) : Type 0 where
   pub going : NoneEnds pieces
   pub front : List (List ℕ)
@@ -29,17 +33,19 @@ pub record IsOneNeeded (run : Run) (max_statement : ℕ) (pieces : List (List �
   pub done : AreDone run pieces front statements left
   pub undecided : IsUndecided max_statement left
 
--- Each of these reads, which were made after those, was needed and gave at most 8,192 bytes; and with what was left of those
--- it is at most the longest chunk and 8,192 bytes.
+-- Each of these reads, made after those that gave `before`, was needed and gave at most 8,192 bytes, the most
+-- that one read gives. With the bytes that were left of the reads before it, these are at most 8,192 more
+-- than the longest chunk may have.
 abbrev pub AreNeededAfter : Run → ℕ → List (List ℕ) → List (List ℕ) → Type 0
-AreNeededAfter run max_statement before [] = ⊤
-AreNeededAfter run max_statement before (piece ∷ pieces) = (left : List ℕ) × IsOneNeeded run max_statement before left
-    × (length piece ≤ 8192) × (length (left ++ piece) ≤ max_statement + 8192)
-    × AreNeededAfter run max_statement (before ++ piece ∷ []) pieces
+AreNeededAfter run most before [] = ⊤
+AreNeededAfter run most before (piece ∷ pieces) = (left : List ℕ) × IsOneNeeded run most before left
+    × (length piece ≤ 8192) × (length (left ++ piece) ≤ most + 8192)
+    × AreNeededAfter run most (before ++ piece ∷ []) pieces
 
--- The reads of a run: no more than it may make, at most one more than there are bytes, and each was needed and no larger
--- than it may be.
-pub record AreReads (home : Package) (passes : Script) (options : Options) (pieces : List (List ℕ)) : Type 0 where
+-- The reads of a run gave these pieces: they are no more than it may make, at most one more than there are
+-- bytes, and each was needed and no larger than it may be.
+pub record AreReads (home : Package) (passes : Script) (options : Options)
+    (pieces : List (List ℕ)) : Type 0 where
   pub within : length pieces ≤ options.max_reads
   pub few : length pieces ≤ length (concat pieces) + 1
   pub needed : AreNeededAfter (run_with home passes options) options.max_statement [] pieces

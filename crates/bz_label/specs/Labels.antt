@@ -88,7 +88,7 @@ pair_of (Err fault) target = Err fault
 pair_of (Ok package_) (Err fault) = Err fault
 pair_of (Ok package_) (Ok target) = Ok (package_, target)
 
--- the last part; empty, where there is none
+-- the last part of a path; empty, where there is none
 abbrev pub last_of : List (List ℕ) → List ℕ
 last_of parts = unwrap_or (last_or None parts) []
 

@@ -28,7 +28,7 @@ escapes =
 abbrev pub escape_value : ℕ → Option ℕ
 escape_value b = option_map (λ e. e.1) (find (λ e. b == e.0) escapes)
 
--- a byte has its own value; an escape, a backslash and one byte, has none in a raw string
+-- the value of a unit: a byte has its own; an escape, a backslash and one byte, has none in a raw string
 abbrev pub unit_value : Bool → List ℕ → Option ℕ
 unit_value raw (b ∷ []) = Some b
 unit_value raw (backslash ∷ b ∷ []) = if raw then None else escape_value b
@@ -41,7 +41,7 @@ values raw (u ∷ us) =
     if is_byte 13 u && map_or false (is_byte 10) (first_of us) then values raw us
     else option_and_then (λ b. option_map (λ bs. b ∷ bs) (values raw us)) (unit_value raw u)
 
--- the value of these units after a prefix: none, where that has a `b`
+-- the value of the units of a literal with this prefix: none, where the prefix has a `b`
 abbrev pub value_after : List ℕ → List (List ℕ) → Option (List ℕ)
 value_after prefix us =
     if bytes_eq prefix [] then values false us
@@ -75,7 +75,7 @@ value_at _ text = None
 abbrev pub token_value : Token → Option (List ℕ)
 token_value t = value_at t.kind t.text.now
 
--- how a byte of a value is written
+-- how a byte of a value is written in a new literal
 abbrev pub written : ℕ → List ℕ
 written b =
     if b == 92 then codes "\\\\"

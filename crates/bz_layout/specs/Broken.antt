@@ -21,6 +21,5 @@ breaks_by_count _ n = false
 -- A group is broken by a comment in it, by the number of its segments, or, if it has two or more, by a broken
 -- group in one of them (`inside`: written without a break of its own, it would still stand on several lines).
 abbrev pub is_broken : GroupKind → List Segment → List (List ℕ) → Bool → Bool
-is_broken kind ss end inside =
-    is_filled end || list_any has_comment ss || breaks_by_count kind (length ss)
+is_broken kind ss end inside = is_filled end || list_any has_comment ss || breaks_by_count kind (length ss)
     || nat_le 2 (length ss) && inside

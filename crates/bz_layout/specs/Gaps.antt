@@ -5,7 +5,8 @@ use Rattle.std.specs.Prelude.Option.{Some, None}
 use Rattle.bz_tree.specs.declared.tree.Class.{Class}
 use Rattle.bz_tree.specs.declared.tree.Class.TheVariants.{Load, Assign}
 
--- how many between two: one, but none between two loads and none between two assignments
+-- how many empty lines stand between statements of two classes: one, but none between two loads and none
+-- between two assignments
 abbrev pub lines_between : Class → Class → ℕ
 lines_between Load Load = 0
 lines_between Assign Assign = 0

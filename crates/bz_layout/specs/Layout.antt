@@ -57,7 +57,7 @@ abbrev mutual
       else in_place ++ (comma_if one_comma ++ piece Closed Operator (brackets kind).1 ∷ []))
 
   -- the nodes of a segment or statement, after those before them (`before`; in a `seg` these are the comments
-  -- above it)
+  -- above it); `first` is the gap before the first node
   pub items_pieces : Style → ℕ → Option GroupKind → Gap → List Item → Items → List Piece
   items_pieces style level within first before no_items = []
   items_pieces style level within first before (item x xs) =
@@ -81,10 +81,9 @@ abbrev mutual
       else piece Closed Operator (codes ",") ∷ items_pieces style level (Some kind) Space [] nodes)
       ++ flat_segs style level kind false ss
 
--- the nodes, two spaces and the suffix if there is one, a newline
+-- the line of a statement: its nodes, two spaces and the suffix if there is one, a newline
 abbrev pub statement_line : Statement → List Piece
-statement_line s =
-    items_pieces Broken 0 None Closed [] (items_of s.nodes)
+statement_line s = items_pieces Broken 0 None Closed [] (items_of s.nodes)
     ++ (suffix_piece s.suffix ++ piece Closed Newline (codes "\n") ∷ [])
 
 -- the class of comment lines alone

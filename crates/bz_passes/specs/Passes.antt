@@ -2,7 +2,8 @@
 -- this project's own rule).
 -- Begin with `Slot`, `Meaning` and `Pass`.
 -- It is stated for any statements S, targets T, commands C and log entries M, the arguments in braces. A log
--- has one list of entries for lines and messages, since their order is one.
+-- has one list of entries for lines and messages, since their order is one. Everywhere m is the meaning, c a
+-- command, p a pass, x a slot with its mark and e an execution; cs, ps, xs and es are lists of these.
 use Rattle.std.specs.Prelude.{◌≢◌, Any, Bool, not, ◌&&◌, if◌then◌else◌, List, [], ◌∷◌, ◌++◌, map, filter, fold, Option}
 use Rattle.std.specs.List.{flat_map, list_any}
 
@@ -59,8 +60,7 @@ module _ {S T C M : Type 0} (m : Meaning S T C M) where
   -- the executions of a pass's commands on its slots: of each command in turn, slot by slot
   abbrev pub executions : List C → List (Marked S) → List (Execution S C)
   executions [] xs = []
-  executions (c ∷ cs) xs =
-      map (λ x. record { command = c; found = x.slot }) (filter (λ x. x.mark) xs)
+  executions (c ∷ cs) xs = map (λ x. record { command = c; found = x.slot }) (filter (λ x. x.mark) xs)
       ++ executions cs (map (executed m c) xs)
 
   -- the executions of the passes, one after another

@@ -12,10 +12,9 @@ use Rattle.bz_rule.specs.Move.{arrivals, elements_of, put_in}
 use Rattle.bz_token.specs.Common.{is_empty, map_or}
 
 -- `add <attr> <v>..`: as new elements, the values arrive that no element of a list part equals, and no value
--- before them. Nothing is added where it notes why.
+-- before them. Nothing is added where the attribute has no list part (`no_list_note`).
 abbrev pub add : Package → List ℕ → List (List ℕ) → List Segment → List Segment
-add home attr values args =
-    if is_some (no_list_note attr (first_named attr args)) then args
+add home attr values args = if is_some (no_list_note attr (first_named attr args)) then args
     else put_in attr (arrivals home (elements_of (first_named attr args)) (map string values)) args
 
 -- The same value by value, and whether it changes something.

@@ -14,11 +14,11 @@ use Rattle.bz_attribute.specs.declared.done.Note.TheVariants.{NoValue}
 use Rattle.bz_token.specs.Common.{map_or}
 use Rattle.std.specs.Option.{option_or}
 
--- spaces and tabs
+-- a space or a tab
 abbrev pub is_blank : ℕ → Bool
 is_blank b = b == 32 || b == 9
 
--- without the blanks at its end
+-- a text without the blanks at its end
 abbrev pub trimmed : List ℕ → List ℕ
 trimmed [] = []
 trimmed (b ∷ bs) = if list_all is_blank (b ∷ bs) then [] else b ∷ trimmed bs
@@ -48,7 +48,8 @@ abbrev pub no_value_note : Package → List ℕ → List ℕ → Option Segment 
 no_value_note home attr v arg = option_and_then
     (λ a. if list_any (list_any (equals home v)) (parts (value a)) then None else Some (NoValue attr v)) arg
 
--- why it does nothing: the attribute absent, without list part, without such an element: the first of these
+-- the note why `comment` of a value does nothing: the attribute is absent, has no list part, or no such
+-- element: the first of these
 abbrev pub comment_note : Package → List ℕ → List ℕ → List Segment → Option Note
 comment_note home attr v args = option_or (absent_note attr args) (option_or
     (no_list_note attr (first_named attr args)) (no_value_note home attr v (first_named attr args)))

@@ -5,7 +5,7 @@ use Rattle.bz_label.specs.declared.arguments.Attributes.TheVariants.{Named}
 use Rattle.bz_label.specs.declared.arguments.Commented.TheVariants.{Attribute, Value}
 use Rattle.bz_label.specs.declared.arguments.Chosen.TheVariants as moved
 use Rattle.bz_label.specs.declared.arguments.Setting.TheVariants.{ToValues}
-use Rattle.bz_rule.specs.declared.command.Action.TheVariants.{Add, Remove, Set, SetIfAbsent, Move, Replace, Comment}
+use Rattle.bz_rule.specs.declared.command.Action.TheVariants.{Add, Remove, Rename, Set, SetIfAbsent, Move, Replace, Comment}
 use Rattle.bz_rule.specs.declared.forms.NewArgument.{NewArgument}
 use Rattle.bz_rule.specs.declared.forms.Values.{Values}
 use Rattle.bz_rule.specs.declared.forms.Values.TheVariants as values
@@ -39,6 +39,7 @@ looked_at _ = None
 abbrev pub needed : Command → Option (List ℕ)
 needed (Comment (Attribute attr) text) = Some attr
 needed (Comment (Value attr value) text) = Some attr
+needed (Rename old new) = Some old
 needed _ = None
 
 -- an attribute and its words

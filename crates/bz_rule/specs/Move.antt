@@ -18,7 +18,7 @@ abbrev pub move_note : List ℕ → List ℕ → List Segment → Option Note
 move_note old new args = option_or (absent_note old args)
     (option_or (no_list_note old (first_named old args)) (no_list_note new (first_named new args)))
 
--- the elements of all list parts, one after another
+-- the elements of all list parts of an argument, one after another; none where it is absent
 abbrev pub elements_of : Option Segment → List Segment
 elements_of arg = map_or [] (λ a. flat_map (λ ss. ss) (parts (value a))) arg
 
@@ -30,15 +30,16 @@ arrivals home there (s ∷ ss) =
     if map_or false (λ v. list_any (equals home v) there) (string_value s.nodes) then arrivals home there ss
     else s ∷ arrivals home (there ++ s ∷ []) ss
 
--- these elements at the end of the first list part of `new`, or in a new attribute
+-- the arguments with these elements at the end of the first list part of the attribute `new`; where it is
+-- absent, in a new attribute
 abbrev pub put_in : List ℕ → List Segment → List Segment → List Segment
 put_in new ss args =
     if has new args then edit_first (is_named new)
     (λ a. with_value (edit_part (λ there. true) (λ there. there ++ ss) (value a)) a ∷ []) args
     else args ++ argument new (list_item ss ∷ []) ∷ []
 
--- `move <old> <new> <v>..`, `move <old> <new> *`: the chosen elements leave `old`, and each takes its comments
--- with it. Nothing is moved where it notes why, nor where no element is chosen.
+-- `move <old> <new> <v>..`, `move <old> <new> *`: the chosen elements leave `old`, and each takes its
+-- comments with it. Nothing is moved where `move_note` says why, nor where no element is chosen.
 abbrev pub move : Package → List ℕ → List ℕ → Chosen → List Segment → List Segment
 move home old new chosen args =
     let leaving = filter (is_chosen home chosen) (elements_of (first_named old args)) in

@@ -17,7 +17,7 @@ use Rattle.std.specs.Cmp.Lexicographic.{pointwise}
 abbrev pub list_attributes : List (List ℕ)
 list_attributes = slice_split (λ b. b == 32) (codes "srcs hdrs textual_hdrs deps runtime_deps exports data tools outs visibility default_visibility tags copts defines includes linkopts features")
 
--- one of them
+-- an attribute is one of these
 abbrev pub is_list_attribute : List ℕ → Bool
 is_list_attribute attr = list_any (bytes_eq attr) list_attributes
 
@@ -53,7 +53,7 @@ new_of attr (word ∷ []) was =
     then NewStrings (word ∷ []) else new_word word)
 new_of attr words was = NewStrings words
 
--- the nodes that are written
+-- the nodes that are written for a new value
 abbrev pub new_value : New → List Item
 new_value (NewString word) = string_item word ∷ []
 new_value (NewNumber digits) = leaf Integer digits ∷ []
@@ -90,8 +90,7 @@ set_if_absent attr words args = if has attr args then args
 
 -- the tokens of a kind: identifiers, with a dot (46) between two
 abbrev pub kind_items : List ℕ → List Item
-kind_items kind =
-    join_by (λ name. leaf Identifier name ∷ []) (leaf Operator (codes ".") ∷ [])
+kind_items kind = join_by (λ name. leaf Identifier name ∷ []) (leaf Operator (codes ".") ∷ [])
     (slice_split (λ b. b == 46) kind)
 
 -- `set kind <k>`: a rule of this kind stays as it is written

@@ -4,7 +4,7 @@
 ghost use Rattle.std.specs.Prelude.{◌≡◌, [], ◌∷◌, IfSome, Some};
 ghost use Rattle.bz_label.specs.declared.arguments.Attributes.TheVariants.{Named};
 ghost use Rattle.bz_label.specs.declared.arguments.Commented.TheVariants.{Attribute};
-ghost use Rattle.bz_rule.specs.declared.command.Action.TheVariants.{Add, Comment, Print, Remove, Replace};
+ghost use Rattle.bz_rule.specs.declared.command.Action.TheVariants.{Add, Comment, Print, Remove, Rename, Replace};
 ghost use Rattle.bz_rule.specs.Forms as spec;
 
 use crate::command::{Action, Command};
@@ -22,6 +22,13 @@ pub struct ListValue<'c> {
 #[derive(Clone, Copy)]
 pub struct ReplacedValue<'c> {
     pub attr: &'c str,
+    pub old: &'c str,
+    pub new: &'c str,
+}
+
+/// The name of an argument, and what it becomes.
+#[derive(Clone, Copy)]
+pub struct RenamedAttribute<'c> {
     pub old: &'c str,
     pub new: &'c str,
 }
@@ -79,6 +86,7 @@ pub fn needed(command: &Command) -> Option<&str>
         Action::Comment(Commented::Attribute(attr) | Commented::Value(attr, _), _) => Some(
             attr.as_str(),
         ),
+        Action::Rename(old, _) => Some(old.as_str()),
         _ => None,
     }
 }
@@ -93,6 +101,19 @@ pub fn comment_by(command: &Command) -> Option<AttributeComment<'_>>
     Some(AttributeComment {
         attr: attr.as_str(),
         text: text.as_str(),
+    })
+}
+
+/// The attribute that the command renames, and its new name.
+pub fn renamed_by(command: &Command) -> Option<RenamedAttribute<'_>>
+    ensures { IfSome result (λ renamed. command.now ≡ Rename renamed.old.now renamed.new.now) }
+{
+    let Action::Rename(from, to) = &command.action else {
+        return None;
+    };
+    Some(RenamedAttribute {
+        old: from.as_str(),
+        new: to.as_str(),
     })
 }
 
