@@ -37,9 +37,9 @@ turned_true a b h = ap (bytes_eq b) (same_bytes a b h) ∙ nat_list_eq_equiv.ref
 turned : (a b : List ℕ) → bytes_eq a b ≡ bytes_eq b a
 turned a b = elim (cases_Bool (bytes_eq a b)) [
   | inl is ↦ is ∙ sym (turned_true a b is)
-  | inr no ↦ elim (cases_Bool (bytes_eq b a)) [
-    | inl is ↦ absurd (false≢true (sym no ∙ turned_true b a is))
-    | inr other ↦ no ∙ sym other
+  | inr differs ↦ elim (cases_Bool (bytes_eq b a)) [
+    | inl is ↦ absurd (false≢true (sym differs ∙ turned_true b a is))
+    | inr other ↦ differs ∙ sym other
   ]
 ]
 
@@ -69,7 +69,7 @@ hold_again home lists earlier there v h among w =
     let all : list_any (same home w) (earlier ++ v ∷ []) ≡ (before || (same home w v || false)) = list_any-append (same home w) earlier (v ∷ []) in
     elim (cases_Bool (same home w v)) [
       | inl is ↦ equal_alike home w v there is ∙ among ∙ sym (ap (λ (b : Bool). stands home lists w || b) (all ∙ ap (λ (b : Bool). before || (b || false)) is) ∙ last_true (stands home lists w) before)
-      | inr no ↦ h w ∙ ap (λ (b : Bool). stands home lists w || b) (sym (all ∙ ap (λ (b : Bool). before || (b || false)) no ∙ or-false before))
+      | inr differs ↦ h w ∙ ap (λ (b : Bool). stands home lists w || b) (sym (all ∙ ap (λ (b : Bool). before || (b || false)) differs ∙ or-false before))
     ]
 
 -- one that arrives
@@ -114,9 +114,9 @@ edits_same attr f g (b ∷ args) a e h = elim (cases_Bool (is_named attr b)) [
       let found : Some b ≡ Some a = rw is at e in
       let here : b ≡ a = cc in
       rw is (ap (λ (ys : List Segment). ys ++ args) (ap f here ∙ h ∙ sym (ap g here)))
-  | inr no ↦
-      let rest : first_named attr args ≡ Some a = rw no at e in
-      rw no (ap (λ (ys : List Segment). b ∷ ys) (edits_same attr f g args a rest h))
+  | inr differs ↦
+      let rest : first_named attr args ≡ Some a = rw differs at e in
+      rw differs (ap (λ (ys : List Segment). b ∷ ys) (edits_same attr f g args a rest h))
 ]
 
 pub kept_by_value : (home : Package) (attr : List ℕ) (values : List (List ℕ)) (args : List Segment) (a : Segment) → first_named attr args ≡ Some a → with_added home values a ≡ a → add_by_value home attr values args ≡ args

@@ -1,5 +1,5 @@
 -- The head of a rule, where a command edits another attribute than its name.
-use Rattle.std.proofs.Common.{◌≡◌, ◌∙◌, ℕ, List, [], ◌∷◌, ◌++◌, Bool, true, false, ◌||◌, not, drop, filter, if◌then◌else◌, Option, Some, None, is_some, map, option_map, refl, ap, sym, subst, option_and_then}
+use Rattle.std.proofs.Common.{◌≡◌, ◌∙◌, ℕ, List, [], ◌∷◌, ◌++◌, Bool, true, false, ◌||◌, not, drop, filter, if◌then◌else◌, Option, Some, None, is_some, map, option_map, length, ◌+◌, refl, ap, sym, subst, arith, length-append, option_and_then}
 use Rattle.std.specs.Prelude.{bytes_eq, codes}
 use Rattle.std.proofs.lemmas.Slice.Eq.{bytes_eq-Decides}
 use Rattle.bz_token.specs.declared.token.Kind.TheVariants.{Identifier}
@@ -19,7 +19,7 @@ use Rattle.bz_rule.specs.Comment.{comment_attribute, comment_element, comment_li
 use Rattle.bz_attribute.specs.Effects.{argument, edit_first, edit_part, filtered, has, is_chosen, list_item, loses_all, unchosen, with_args, with_comment}
 use Rattle.bz_attribute.specs.Heads.{HasHead}
 use Rattle.bz_attribute.specs.declared.head.Head.{Head}
-use Rattle.bz_rule.specs.Move.{arrivals, elements_of, move, move_note, moves, put_in}
+use Rattle.bz_rule.specs.Move.{arrivals, elements_of, move, move_note, put_in}
 use Rattle.bz_rule.specs.Rename.{rename, rename_note, rename_to}
 use Rattle.bz_rule.specs.Replace.{replace, replaced, replaced_in}
 use Rattle.bz_attribute.specs.RowPlaces.{IsLocal}
@@ -32,7 +32,7 @@ use Rattle.bz_rule.specs.private.RowEdits.{KeepsHead, edits_arguments, rule_afte
 use Rattle.bz_rule.proofs.Arguments.{attribute_named, name_put}
 use Rattle.bz_rule.proofs.Lawfulness.{local}
 use Rattle.bz_rule.proofs.RowEdited.{args_rule, none_above}
-use Rattle.bz_token.specs.Common.{is_empty}
+use Rattle.bz_token.specs.Common.{is_empty, map_or}
 use Rattle.bz_attribute.proofs.Locals.{has_first, is_first_named}
 use Rattle.bz_attribute.proofs.EditedRules.{rule_after as rule_edited, rule_with}
 
@@ -193,12 +193,10 @@ beside_put n new ss args h =
 beside_moved : (home : Package) (n old new : List ℕ) (chosen : Chosen) (args : List Segment) → bytes_eq old n ≡ false → bytes_eq new n ≡ false → first_named n (move home old new chosen args) ≡ first_named n args
 beside_moved home n old new chosen args h g =
     let gone : List Segment = edit_first (is_named old) (filtered (unchosen home chosen)) args in
-    let came : List Segment = arrivals home (elements_of (first_named new args)) (filter (is_chosen home chosen) (elements_of (first_named old args))) in
-    elim (is_some (move_note old new args)) as (λ b. first_named n (if b then args else (if moves home old chosen args then put_in new came gone else args)) ≡ first_named n args) [
-      | true ↦ refl
-      | false ↦ elim (moves home old chosen args) as (λ b. first_named n (if b then put_in new came gone else args) ≡ first_named n args)
-          [ true ↦ beside_put n new came gone g ∙ first_beside n old (filtered (unchosen home chosen)) args h (λ a is. less home n old (unchosen home chosen) a h is) | false ↦ refl ]
-    ]
+    let leaving : List Segment = filter (is_chosen home chosen) (elements_of (first_named old args)) in
+    let came : List Segment = arrivals home (elements_of (first_named new args)) leaving in
+    elim (is_some (move_note old new args) || is_empty leaving) as (λ b. first_named n (if b then args else put_in new came gone) ≡ first_named n args)
+    [ true ↦ refl | false ↦ beside_put n new came gone g ∙ first_beside n old (filtered (unchosen home chosen)) args h (λ a is. less home n old (unchosen home chosen) a h is) ]
 
 -- the attribute of one is the one that was asked for
 of_it : (n name attr : List ℕ) (f : List Segment → List Segment) → Some name ≡ Some attr → bytes_eq attr n ≡ false → (bytes_eq name n ≡ false → MakesNo n name f) → MakesNo n attr f
@@ -260,6 +258,12 @@ removed_stays home attr (value ∷ values) s r h rule = head_stays (Remove (Name
 commented : (text : List ℕ) (s : Statement) (head : Option Head) → HasHead head s → HasHead head (comment_rule text s)
 commented text s None has = has
 commented text s (Some head) has = record { rule = has.rule; is = has.is; kind_is = has.kind_is; name_is = has.name_is; start_is = has.start_is; end_is = has.end_is }
+
+pub above_stays : (home : Package) (text : List ℕ) (s : Statement) (r : Rule) → rule_of s.nodes ≡ Some r → KeepsHead 1 s (rule_after (Comment Above text) home s)
+above_stays home text s r rule =
+    let more : length (map_or s.before (λ r. s.before ++ comment_line text ∷ []) (rule_of s.nodes)) ≡ length s.before + 1 =
+    ap (λ (o : Option Rule). length (map_or s.before (λ r. s.before ++ comment_line text ∷ []) o)) rule ∙ length-append s.before (comment_line text ∷ []) in
+    record { head = λ head has. commented text s head has; more = omega (arith, more) }
 
 pub name_stays : (c : Command) (home : Package) (attr : List ℕ) (args : List Segment) → one_attribute c ≡ Some attr → bytes_eq attr (codes "name") ≡ false → name_in (args_after c home args) ≡ name_in args
 name_stays c home attr args is h = ap (option_and_then (λ a. string_value (value a))) (name_kept c home attr is h args)

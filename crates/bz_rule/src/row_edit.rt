@@ -50,16 +50,15 @@ pub(crate) fn edit_rule<'a>(
 }
 
 /// How many comments more the rule has above it after the command, at least, where it keeps its head.
-#[tactic(auto, using(crate::proofs::HeadKept::head_stays, crate::proofs::HeadKept::renamed_stays, crate::proofs::HeadKept::moved_stays, crate::proofs::HeadKept::removed_stays))]
+#[tactic(auto, using(crate::proofs::HeadKept::above_stays))]
 pub(crate) fn kept_head(command: &Command) -> Option<usize>
     ensures { IfSome result (λ more. (home : labels.Package) (s : Statement) (r : Rule) → rule_of s.nodes ≡ Some r
         → KeepsHead more s (rule_after command.now home s)) }
 {
     match &command.action {
         Action::Comment(Commented::Rule, _) => Some(1),
-        Action::Rename(old, new) | Action::Move(old, new, _) if is_other(old) && is_other(new) => {
-            Some(0)
-        }
+        Action::Rename(old, new) if is_other(old) && is_other(new) => Some(0),
+        Action::Move(old, new, _) if is_other(old) && is_other(new) => Some(0),
         Action::Remove(Attributes::Named(attr), _) if is_other(attr) => Some(0),
         _ => match one_attribute(command) {
             Some(attr) if attr != "name" => Some(0),
