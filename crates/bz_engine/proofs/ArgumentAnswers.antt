@@ -193,7 +193,7 @@ list_changes depth command attr home s place old new one rule has edits =
     (made.0, edits.1 ∙ ap (λ (t : List ℕ). old ++ t) (sym made.1))
 
 -- a comment above an argument
-has_of_first : (attr : List ℕ) (s : Statement) (r : Rule) → rule_of s.nodes ≡ Some r → has attr (first_args attr s) ≡ true → has attr r.args ≡ true
+pub has_of_first : (attr : List ℕ) (s : Statement) (r : Rule) → rule_of s.nodes ≡ Some r → has attr (first_args attr s) ≡ true → has attr r.args ≡ true
 has_of_first attr s r is there = by (first_named attr r.args) refl
   where
     first_is : first_args attr s ≡ option_to_list (first_named attr r.args)

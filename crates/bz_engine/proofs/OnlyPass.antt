@@ -6,7 +6,7 @@ use Rattle.bz_token.specs.Common.{map_or}
 use Rattle.bz_tree.specs.declared.tree.Class.{Class}
 use Rattle.bz_tree.specs.declared.tree.Class.TheVariants.{Rule as RuleClass}
 use Rattle.bz_tree.specs.Statement.{class_of}
-use Rattle.bz_tree.specs.Tree.{Statement}
+use Rattle.bz_tree.specs.Tree.{Segment, Statement}
 use Rattle.bz_label.specs.Labels.{Package, Target}
 use Rattle.bz_passes.specs.Passes.{Slot, marked}
 use Rattle.bz_attribute.specs.declared.done.Done.{Done}
@@ -37,7 +37,7 @@ use Rattle.bz_engine.specs.declared.canonical.Found.{Found}
 use Rattle.bz_engine.specs.declared.failure.Message.{Message}
 use Rattle.bz_engine.specs.declared.rule_passes.OnePass.{OnePass}
 use Rattle.bz_engine.specs.private.Edits.{IsLaidOut}
-use Rattle.bz_engine.specs.private.Found.{HasLogAt, IsForOne, IsFound, IsMarked, KeepsName, Makes, Tells, log_of, one_log_of, one_pass, one_told, told_line}
+use Rattle.bz_engine.specs.private.Found.{HasLogAt, IsForOne, IsFound, IsFoundOn, IsMarked, KeepsName, Makes, Tells, log_of, one_log_of, one_pass, one_told, told_line}
 use Rattle.bz_engine.specs.private.NextChunks.{EditsFound}
 use Rattle.bz_engine.specs.private.Rows.{HasKey}
 
@@ -72,13 +72,17 @@ pub log_fits : (depth : ℕ) (home : Package) (kept : List (Kept Entry)) (passes
     → Fits (and_at only.at (one_log_of log) kept) passes
 log_fits depth home kept passes only found log one fits = fits_and kept passes only.at (one_pass only) (one_log_of log) one.is refl fits
 
+-- a rule keeps its name where its arguments do
+pub name_left : (f : List Segment → List Segment) (s : Statement) → ((args : List Segment) → name_in (f args) ≡ name_in args) → KeepsName s (with_args f s)
+name_left f s same = ap rule_name (rule_after f s) ∙ by (rule_of s.nodes)
+  where
+    by : (rule : Option Rule) → rule_name (option_map (rule_with f) rule) ≡ rule_name rule
+    by None = refl
+    by (Some r) = same r.args
+
 -- a command that looks at one argument leaves the name, unless that is it
 pub name_kept : (command : Command) (home : Package) (attr : List ℕ) (s : Statement) → one_attribute command ≡ Some attr → bytes_eq attr (codes "name") ≡ false → KeepsName s (with_args (args_after command home) s)
-name_kept command home attr s one other = ap rule_name (rule_after (args_after command home) s) ∙ by (rule_of s.nodes)
-  where
-    by : (rule : Option Rule) → rule_name (option_map (rule_with (args_after command home)) rule) ≡ rule_name rule
-    by None = refl
-    by (Some r) = name_stays command home attr r.args one other
+name_kept command home attr s one other = name_left (args_after command home) s (λ args. name_stays command home attr args one other)
 
 -- what the pass makes of a statement that it marks, and what is kept of it
 slot_of_one : (home : Package) (only : OnePass) (s : Statement) (t : Slot Statement) → marks only.target.now s ≡ true → after only.command.now home (Some s) ≡ t
@@ -212,8 +216,14 @@ laid_as run s old start end new before after_it begun ended laid =
     subst (λ (p : Progress). IsLaidOut run s old p before after_it) (sym ended) (subst (λ (p : Progress). IsLaidOut run s p end before after_it) begun laid)
 
 -- The script on the statement of a chunk that was found is done.
+pub is_done_on : (run : Run) (found : Found) (old new : Progress) (before after : List ℕ)
+    → Fits new.kept run.passes → new.line ≡ old.line → ((s : Statement) → IsFoundOn run.max_depth old.line found s → IsLaidOut run s old new before after)
+    → EditsFound run found old new before after true
+is_done_on run found old new before after fits line laid =
+    record { fits = fits; line = line; edited = λ done. laid; nothing = λ other. absurd (false≢true (sym other)) }
+
+-- the same, on whatever line it begins
 pub is_done : (run : Run) (found : Found) (old new : Progress) (before after : List ℕ)
     → Fits new.kept run.passes → new.line ≡ old.line → ((s : Statement) → IsFound run.max_depth found s → IsLaidOut run s old new before after)
     → EditsFound run found old new before after true
-is_done run found old new before after fits line laid =
-    record { fits = fits; line = line; edited = λ done. laid; nothing = λ other. absurd (false≢true (sym other)) }
+is_done run found old new before after fits line laid = is_done_on run found old new before after fits line (λ s is. laid s is.is)

@@ -10,13 +10,14 @@ use Rattle.bz_attribute.specs.declared.done.Done.{Done}
 use Rattle.bz_attribute.specs.declared.done.Note.TheVariants.{Missing, NoAttribute}
 use Rattle.bz_rule.specs.Comment.{comment_note}
 use Rattle.bz_rule.specs.Print.{printed, value_text}
+use Rattle.bz_rule.specs.Rename.{rename_note}
 use Rattle.bz_attribute.specs.Effects.{done, absent_note}
 use Rattle.bz_attribute.specs.Rules.{Rule, first_named, kind_text, name_in, rule_of, string_value, value}
 use Rattle.bz_attribute.specs.Texts.{home_text, shown_text}
 use Rattle.bz_canonical.specs.Canonical.{HasName, IsNameless, rule_args}
 use Rattle.bz_passes.specs.declared.entry.Entry.{Entry}
 use Rattle.bz_passes.specs.declared.entry.Entry.TheVariants.{Warning}
-use Rattle.bz_rule.specs.declared.command.Action.TheVariants.{Comment, Print}
+use Rattle.bz_rule.specs.declared.command.Action.TheVariants.{Comment, Print, Rename}
 use Rattle.bz_rule.specs.Commands.{Command, args_done, done_of}
 use Rattle.bz_rule.proofs.Lawfulness.{lawful}
 use Rattle.bz_engine.specs.Language.{note_told}
@@ -40,6 +41,9 @@ fails_of_args (Comment (Attribute a) text) attr home args is none =
 fails_of_args (Comment (Value a value) text) attr home args is none =
     let same : a ≡ attr = cc in
     ap (λ n. done (comment_note home n value args) true) same ∙ rw (absent_notes attr args none) refl
+fails_of_args (Rename a new) attr home args is none =
+    let same : a ≡ attr = cc in
+    ap (λ n. done (rename_note n new args) true) same ∙ rw (none_has attr args none) refl
 fails_of_args _ attr home args is none = absurd cc
 
 fails_of_rule : (command : Command) (attr : List ℕ) (home : Package) (s : Statement) (r : Rule) → needed command ≡ Some attr → rule_of s.nodes ≡ Some r → IsWithout attr s → done_of command home (Some s) ≡ failure attr
@@ -49,6 +53,9 @@ fails_of_rule (Comment (Attribute a) text) attr home s r is at without =
 fails_of_rule (Comment (Value a value) text) attr home s r is at without =
     ap (λ o. map_or (done None false) (λ r. args_done (Comment (Value a value) text) home r.args) o) at
     ∙ fails_of_args (Comment (Value a value) text) attr home r.args is (ap (λ o. first_named attr (rule_args o)) (sym at) ∙ without)
+fails_of_rule (Rename a new) attr home s r is at without =
+    ap (λ o. map_or (done None false) (λ r. args_done (Rename a new) home r.args) o) at
+    ∙ fails_of_args (Rename a new) attr home r.args is (ap (λ o. first_named attr (rule_args o)) (sym at) ∙ without)
 fails_of_rule _ attr home s r is at without = absurd cc
 
 -- a rule of this name is shown by it

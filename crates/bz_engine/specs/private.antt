@@ -9,3 +9,4 @@ pub mod NextChunks
 pub mod Finds
 pub mod Found
 pub mod ArgumentEdits
+pub mod Renamed

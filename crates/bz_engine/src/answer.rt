@@ -5,14 +5,17 @@ ghost use Rattle.bz_tree.specs.Tree.{Statement};
 ghost use Rattle.bz_attribute.specs.Marks.{marks};
 ghost use Rattle.bz_attribute.specs.Rules.{Rule, rule_of};
 ghost use Rattle.bz_canonical.specs.Canonical.{HasName};
-ghost use Rattle.bz_engine.specs.private.Found.{IsFound, IsMarked, IsWithout, LeavesRule, Makes, told_line};
+ghost use Rattle.bz_engine.specs.private.Found.{HasItsSpans, IsFound, IsFoundOn, IsMarked, IsWithout, LeavesRule, Makes, told_line};
 
 use crate::canonical::Found;
+use crate::edit::ScriptRun;
+use crate::names::position_of;
 use bz_attribute::Env;
+use bz_canonical::{SpannedRule, argument_place};
 use bz_label::{Marked, Target};
 use bz_memory::NoMemory;
 use bz_rule::commands::print::print_name;
-use bz_rule::forms::{looked_at, printed_by};
+use bz_rule::forms::{looked_at, printed_by, renamed_by};
 use bz_rule::{Command, one_attribute};
 
 /// A rule stays as it is, and this is printed of it.
@@ -26,10 +29,14 @@ pub(crate) fn is_answerable(command: &Command) -> bool {
     printed_by(command).is_some()
         || looked_at(command).is_some()
         || one_attribute(command).is_some()
+        || renamed_by(command).is_some()
 }
 
-/// The attribute that the command looks at alone. Empty: there is none.
+/// The attribute that the command looks at alone, or renames. Empty: there is none.
 pub(crate) fn asked_attribute(command: &Command) -> &str {
+    if let Some(renamed) = renamed_by(command) {
+        return renamed.old;
+    }
     match one_attribute(command) {
         Some(attr) => attr,
         None => match looked_at(command) {
@@ -89,6 +96,28 @@ pub(crate) fn is_without(found: &Found<'_>, attr: &str) -> bool
         Some(place) => found.attr == attr && place.lines.is_empty(),
         None => false,
     }
+}
+
+/// No argument of the rule has this name, as the spans of all show, though it is not the one that was looked for.
+pub(crate) fn is_without_by_spans(script: ScriptRun<'_>, found: &Found<'_>, attr: &str) -> bool
+    requires { HasItsSpans script.max_depth script.passes.now found.now }
+    ensures { IsTrue result → (line : ℕ) (s : Statement) → IsFoundOn script.entry.max_depth line found.now s
+        → IsWithout attr.now s }
+{
+    if !found.chunk.noted {
+        return false;
+    }
+    let Some(at) = position_of(script.passes.names(), attr) else {
+        return false;
+    };
+    let rule = SpannedRule {
+        written: found.chunk.written,
+        spans: found.spans,
+    };
+    let Some(place) = argument_place(found.chunk.chunk, rule, at) else {
+        return false;
+    };
+    place.lines.is_empty()
 }
 
 /// The target marks the statement of the chunk, whatever else is in it.

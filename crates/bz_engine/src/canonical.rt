@@ -278,7 +278,8 @@ fn copy_marked(
     progress: &mut Progress,
     text: &mut Vec<u8>,
 ) -> Result<bool, NoMemory>
-    requires { Fits progress.old.kept script.passes.now }
+    requires fits { Fits progress.old.kept script.passes.now }
+    requires spans { HasItsSpans script.max_depth script.passes.now found.now }
     ensures { IfOk result (EditsFound (run_of script.entry) found.now progress.old progress.new
         text.old.items text.new.items) }
 {
@@ -296,7 +297,8 @@ fn copy_answered(
     progress: &mut Progress,
     text: &mut Vec<u8>,
 ) -> Result<bool, NoMemory>
-    requires { Fits progress.old.kept script.passes.now }
+    requires fits { Fits progress.old.kept script.passes.now }
+    requires spans { HasItsSpans script.max_depth script.passes.now found.now }
     ensures { IfOk result (EditsFound (run_of script.entry) found.now progress.old progress.new
         text.old.items text.new.items) }
 {

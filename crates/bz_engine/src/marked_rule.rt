@@ -1,19 +1,21 @@
 //! Rules that one pass alone marks and that are not read, of which its one command edits one argument: by the lines of
 //! the argument, or by the place above it. `canonical.rt` asks for a chunk of which it knows what would be written.
 
-ghost use Rattle.std.specs.Prelude.{◌≡◌, ◌++◌, if◌then◌else◌, [], ◌∷◌, Some, false, true, bytes_eq, codes, IfOk, OnOk, IfSome};
+ghost use Rattle.std.specs.Prelude.{◌≡◌, ◌++◌, if◌then◌else◌, [], ◌∷◌, ℕ, Some, false, true, bytes_eq, codes, IfOk, OnOk, IfSome, IsTrue};
 ghost use Rattle.bz_tree.specs.Tree.{Statement};
 ghost use Rattle.bz_layout.specs.Layout.{layout_text};
 ghost use Rattle.bz_passes.specs.Exchange.{Fits};
 ghost use Rattle.bz_label.specs.declared.arguments.Commented.TheVariants.{Attribute};
-ghost use Rattle.bz_rule.specs.declared.command.Action.TheVariants.{Comment};
+ghost use Rattle.bz_rule.specs.declared.command.Action.TheVariants.{Comment, Rename};
 ghost use Rattle.bz_rule.specs.OneAttribute.{one_attribute};
 ghost use Rattle.bz_engine.specs.Outcome.{is_query};
 ghost use Rattle.bz_engine.specs.Progress.{text_following};
 ghost use Rattle.bz_engine.specs.private.Edits.{run_of};
-ghost use Rattle.bz_engine.specs.private.Found.{IsForOne};
+ghost use Rattle.bz_engine.specs.private.Found.{HasItsSpans, IsForOne, IsFound, IsFoundOn, IsWithout};
 ghost use Rattle.bz_engine.specs.private.NextChunks.{EditsFound};
+ghost use Rattle.bz_engine.specs.private.Renamed.{TakesName};
 
+use crate::answer::is_without_by_spans;
 use crate::argument::{EditedArgument, execute_in_place, execute_on_lines, is_long};
 use crate::canonical::Found;
 use crate::edit::ScriptRun;
@@ -24,7 +26,7 @@ use bz_canonical::{ArgumentPlace, EditedList, comment_place};
 use bz_layout::put_gap;
 use bz_memory::{NoMemory, extend_from_slice};
 use bz_rule::commands::comment::comment_line;
-use bz_rule::forms::{AttributeComment, comment_by};
+use bz_rule::forms::{AttributeComment, RenamedAttribute, comment_by, renamed_by};
 use bz_rule::one_attribute;
 use bz_tree::Class;
 
@@ -45,12 +47,16 @@ pub(crate) fn edit_marked(
 ) -> Result<bool, NoMemory>
     requires only { IsForOne script.max_depth script.home.now script.passes.now marked.only marked.found.now }
     requires fits { Fits progress.old.kept script.passes.now }
+    requires spans { HasItsSpans script.max_depth script.passes.now marked.found.now }
     ensures { IfOk result (EditsFound (run_of script.entry) marked.entry.found.now progress.old progress.new
         text.old.items text.new.items) }
 {
     let MarkedRule { only, found } = marked;
     if let Some(comment) = comment_by(only.command) {
         return put_comment(script, marked, comment, progress, text);
+    }
+    if let Some(renamed) = renamed_by(only.command) {
+        return put_renamed(script, marked, renamed, progress, text);
     }
     if is_long(found.place) {
         return edit_long_argument(script, marked, progress, text);
@@ -89,6 +95,77 @@ fn put_comment(
     };
     changed.put(script, progress, text)?;
     Ok(true)
+}
+
+/// The command renames an argument. What is written after an argument's name does not hang on it.
+fn put_renamed(
+    script: ScriptRun<'_>,
+    marked: MarkedRule<'_>,
+    renamed: RenamedAttribute<'_>,
+    progress: &mut Progress,
+    text: &mut Vec<u8>,
+) -> Result<bool, NoMemory>
+    requires only { IsForOne script.max_depth script.home.now script.passes.now marked.only marked.found.now }
+    requires fits { Fits progress.old.kept script.passes.now }
+    requires spans { HasItsSpans script.max_depth script.passes.now marked.found.now }
+    requires renamed { marked.only.command.now ≡ Rename renamed.old.now renamed.new.now }
+    ensures { IfOk result (EditsFound (run_of script.entry) marked.entry.found.now progress.old progress.new
+        text.old.items text.new.items) }
+{
+    let MarkedRule { only, found } = marked;
+    if !may_be_renamed(script, found, renamed) {
+        return Ok(false);
+    }
+    let Some(at) = name_place(found, renamed.old) else {
+        return Ok(false);
+    };
+    progress.keep_line(only.at, None)?;
+    let changed = Changed {
+        class: found.chunk.class,
+        before: at.before,
+        lines: renamed.new.as_bytes(),
+        after: at.after,
+    };
+    changed.put(script, progress, text)?;
+    Ok(true)
+}
+
+/// No argument of the rule has the new name, and the rule keeps its own: a pass that comes after may mark it by that.
+fn may_be_renamed(script: ScriptRun<'_>, found: &Found<'_>, renamed: RenamedAttribute<'_>) -> bool
+    requires { HasItsSpans script.max_depth script.passes.now found.now }
+    ensures without { IsTrue result → (line : ℕ) (s : Statement)
+        → IsFoundOn script.entry.max_depth line found.now s → IsWithout renamed.entry.new.now s }
+    ensures old { IsTrue result → bytes_eq renamed.entry.old.now (codes "name") ≡ false }
+    ensures new { IsTrue result → bytes_eq renamed.entry.new.now (codes "name") ≡ false }
+{
+    renamed.old != "name"
+        && renamed.new != "name"
+        && is_without_by_spans(script, found, renamed.new)
+}
+
+/// What is written of a rule before the name of an argument, and after it.
+#[derive(Clone, Copy)]
+struct NamePlace<'t> {
+    before: &'t str,
+    after: &'t str,
+}
+
+/// Where this name stands in what is written of the rule. None: no argument has it, or another one was looked for.
+fn name_place<'a>(found: &Found<'a>, attr: &str) -> Option<NamePlace<'a>>
+    ensures { IfSome result (λ at. (depth : ℕ) (s : Statement) → IsFound depth found.now s
+        → TakesName attr.now s at.before.now at.after.now) }
+{
+    if attr != found.attr {
+        return None;
+    }
+    let place = found.place?;
+    let at = comment_place(found.chunk.written, place)?;
+    let (_, named) = at.below.split_at_checked("\n    ".len())?;
+    let (_, after) = named.split_at_checked(attr.len())?;
+    Some(NamePlace {
+        before: at.above,
+        after,
+    })
 }
 
 /// The one command edits an argument of many lines: what it makes of these is written where it is to stand.

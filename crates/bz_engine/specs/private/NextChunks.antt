@@ -11,7 +11,7 @@ use Rattle.bz_engine.specs.SessionValue.{SessionValue, run_in}
 use Rattle.bz_engine.specs.declared.canonical.Found.{Found}
 use Rattle.bz_engine.specs.declared.edit.Scripted.{Scripted}
 use Rattle.bz_engine.specs.private.Edits.{DoesNothing, EditsChunk, IsLaidOut, IsScripted, edited_of}
-use Rattle.bz_engine.specs.private.Found.{IsFound, IsFoundOn}
+use Rattle.bz_engine.specs.private.Found.{IsFoundOn}
 use Rattle.bz_engine.specs.declared.next_chunk.NextChunk.{NextChunk}
 
 -- The chunk stands ahead, it is not too long, and this is what the script made of it.
@@ -24,7 +24,7 @@ pub record IsFirstEdited (run : Run) (max_statement : ℕ) (ahead : Ahead) (old 
 pub record EditsFound (run : Run) (found : Found) (old new : Progress) (before after : List ℕ) (done : Bool) : Type 0 where
   pub fits : Fits new.kept run.passes
   pub line : new.line ≡ old.line
-  pub edited : IsTrue done → (s : Statement) → IsFound run.max_depth found s → IsLaidOut run s old new before after
+  pub edited : IsTrue done → (s : Statement) → IsFoundOn run.max_depth old.line found s → IsLaidOut run s old new before after
   pub nothing : IsFalse done → DoesNothing old new before after
 
 -- The script on the statement of a chunk that was found, of which some arguments may be sealed: this is what it made of it, or nothing is done.

@@ -1,0 +1,15 @@
+use Rattle.std.proofs.Common.{◌≡◌, ℕ, List, length, arith, tests}
+use Rattle.bz_canonical.specs.Canonical.{HasPlace, between}
+use Rattle.bz_engine.specs.private.Sealed.{asked_names}
+use Rattle.bz_engine.proofs.TextAnswers.{no_argument}
+use Rattle.bz_engine.proofs.answer.is_without_by_spans.Goals as goal
+
+pub returns : goal.returns
+returns c = λ empty line s on.
+    let depth = c.args.script.max_depth in
+    let attr : List ℕ = c.args.attr.now in
+    let place = c.in-Some-argument_place.place in
+    let spans = c.requires.spans c.if-not-found.false line s on.read in
+    let has : HasPlace depth attr s (between place) = c.in-Some-argument_place.ensures line depth (asked_names c.args.script.passes.now) attr s spans c.in-Some.ensures in
+    let none : length place.lines.now ≡ 0 = grind (arith, tests, empty, c.is_empty.ensures) in
+    no_argument depth attr s (between place) has none
