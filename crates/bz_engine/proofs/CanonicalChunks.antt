@@ -91,15 +91,18 @@ pub spans_found : (depth : ℕ) (passes : Script) (chunk : CanonicalChunk) (foun
     → (IsTrue chunk.noted → AreSpansOf depth (asked_names passes) chunk.chunk.now chunk.written.now spans) → HasItsSpans depth passes found
 spans_found depth passes chunk found text spans chunk_is spans_are placed c noted = record {
   read = λ first.
-      let read = subst (λ (k : CanonicalChunk). IsReadBack first depth k.class (option_map (λ name. name.now) k.name) (option_map (λ kind. kind.now) k.kind) k.chunk.now k.written.now) (sym chunk_is) (c.read first) in
-      (read.statement, found_read first depth found read (by found.place placed read.statement (subst (λ (k : CanonicalChunk). IsStatementIn first depth k.chunk.now read.statement) chunk_is read.read))
-      (λ known. (first, (asked_names passes, all known first read.statement read.read))));
+      let read = subst (λ (k : CanonicalChunk). IsReadBack first depth k.class (option_map (λ name. name.now) k.name) (option_map (λ kind. kind.now) k.kind) k.chunk.now k.written.now) (sym chunk_is) (c.read first) in (
+        read.statement,
+        found_read first depth found read (by found.place placed read.statement (subst (λ (k : CanonicalChunk). IsStatementIn first depth k.chunk.now read.statement) chunk_is read.read))
+            (λ known. (first, asked_names passes, all known first read.statement read.read)),
+      );
   spans = all;
 }
   where
     all : IsTrue found.chunk.noted → AreSpansOf depth (asked_names passes) found.chunk.chunk.now found.chunk.written.now found.spans.now
     all = subst (λ (k : CanonicalChunk). IsTrue k.noted → AreSpansOf depth (asked_names passes) k.chunk.now k.written.now found.spans.now) (sym chunk_is)
         (subst (λ (ss : List ArgumentSpan). IsTrue chunk.noted → AreSpansOf depth (asked_names passes) chunk.chunk.now chunk.written.now ss) (sym spans_are) noted)
+
     by : (place : Option ArgumentPlace) → IfSome place (λ place. IsTrue chunk.noted × ((first depth : ℕ) (s : Statement) → HasSpans first depth (asked_names passes) s chunk.chunk.now chunk.written.now spans → HasPlace depth found.attr.now s (between place)))
         → {first : ℕ} (s : Statement) → IsStatementIn first depth chunk.chunk.now s → IfSome (option_map between place) (HasPlace depth found.attr.now s)
     by None placed s read = tt

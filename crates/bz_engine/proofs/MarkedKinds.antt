@@ -20,7 +20,7 @@ kind_marked kind target s is of_kind = subst (λ (t : Target). marks t s ≡ tru
 pub spanned_kind : (kind : List ℕ) (depth : ℕ) (found : Found) (s : Statement) → HasNotedSpans depth found s
     → ((depth : ℕ) (names : List (List ℕ)) (r : NamedRule) (stands : List (List ℕ)) (written : List ℕ) → IsSpannedIn depth names r stands found.chunk.chunk.now written found.spans.now → kind ≡ r.kind)
     → IsOfKind kind s
-spanned_kind kind depth found s (first, (names, has)) told = subst (IsOfKind kind) (sym has.statement_is) (record {
+spanned_kind kind depth found s (first, names, has) told = subst (IsOfKind kind) (sym has.statement_is) (record {
   rule = the_rule has.rule;
   rule_is = read_rule has.rule;
   kind_is = append-nil has.rule.kind ∙ sym (told depth names has.rule has.stands found.chunk.written.now has.spanned);
