@@ -193,16 +193,6 @@ list_changes depth command attr home s place old new one rule has edits =
     (made.0, edits.1 ∙ ap (λ (t : List ℕ). old ++ t) (sym made.1))
 
 -- a comment above an argument
-pub has_of_first : (attr : List ℕ) (s : Statement) (r : Rule) → rule_of s.nodes ≡ Some r → has attr (first_args attr s) ≡ true → has attr r.args ≡ true
-has_of_first attr s r is there = by (first_named attr r.args) refl
-  where
-    first_is : first_args attr s ≡ option_to_list (first_named attr r.args)
-    first_is = ap (λ o. option_to_list (first_named attr (rule_args o))) is
-
-    by : (o : Option Segment) → first_named attr r.args ≡ o → has attr r.args ≡ true
-    by None e = absurd (false≢true (ap (λ o. has attr (option_to_list o)) (sym e) ∙ ap (has attr) (sym first_is) ∙ there))
-    by (Some a) e = is_there attr r.args a e
-
 pub comment_changes : (command : Command) (attr name text : List ℕ) (home : Package) (s : Statement) (above below line : List ℕ) → one_attribute command ≡ Some attr → (r : Rule) × (rule_of s.nodes ≡ Some r)
     → command ≡ Comment (Attribute name) text → line ≡ comment_line text → TakesComment attr s above below
     → Makes command home s (with_args (args_after command home) s) (told_line true None) × (layout_text (with_args (args_after command home) s) ≡ above ++ (line ++ below))
@@ -213,9 +203,8 @@ comment_changes command attr name text home s above below line one rule is line_
     let command_is : command ≡ Comment (Attribute attr) text = is ∙ ap (λ x. Comment (Attribute x) text) same in
     let first : List Segment = first_args attr s in
     let told : args_done command home first ≡ told_line true None = ap (λ c. args_done c home first) command_is ∙ ap (λ b. done (if b then None else Some (NoAttribute attr)) true) t.there in
-    let made : args_after command home rule.0.args ≡ commented attr line rule.0.args = ap (λ c. args_after c home rule.0.args) command_is
-    ∙ ap (λ b. if b then edit_first (is_named attr) (λ a. with_comment (comment_line text) a ∷ []) rule.0.args else rule.0.args) (has_of_first attr s rule.0 rule.1 t.there)
-    ∙ ap (λ x. commented attr x rule.0.args) (sym line_is) in (
+    let made : args_after command home rule.0.args ≡ commented attr line rule.0.args =
+    ap (λ c. args_after c home rule.0.args) command_is ∙ ap (λ x. commented attr x rule.0.args) (sym line_is) in (
       record { after_is = law.slot s; done = args_told command attr home s one rule ∙ told },
       ap layout_text (with_args_at (args_after command home) (commented attr line) s rule.0 rule.1 made) ∙ t.takes line,
     )

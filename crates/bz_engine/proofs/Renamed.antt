@@ -17,7 +17,7 @@ use Rattle.bz_layout.specs.Walked.{items_pieces}
 use Rattle.bz_layout.proofs.Pieces.{bytes_append}
 use Rattle.bz_attribute.specs.Effects.{done, edit_first, has, with_args, with_comment}
 use Rattle.bz_attribute.specs.Rules.{Rule, first_named, ident_of, is_named, is_text, name_of, rule_of}
-use Rattle.bz_attribute.proofs.Locals.{edit_local, is_first_named}
+use Rattle.bz_attribute.proofs.Locals.{edit_local, is_first_named, is_there}
 use Rattle.bz_attribute.proofs.EditedAt.{with_args_at}
 use Rattle.bz_label.specs.Labels.{Package}
 use Rattle.bz_rule.specs.Commands.{Command, args_after, args_done}
@@ -28,7 +28,6 @@ use Rattle.bz_canonical.specs.Canonical.{Between, HasPlace, argument_lines, firs
 use Rattle.bz_canonical.specs.Commented.{TakesComment}
 use Rattle.bz_engine.specs.private.Found.{IsWithout, KeepsName, Makes, told_line}
 use Rattle.bz_engine.specs.private.Renamed.{TakesName, renamed}
-use Rattle.bz_engine.proofs.ArgumentAnswers.{has_of_first}
 use Rattle.bz_engine.proofs.CanonicalChunks.{same_bytes}
 use Rattle.bz_engine.proofs.OnlyPass.{name_left}
 use Rattle.bz_engine.proofs.TextAnswers.{none_has}
@@ -134,6 +133,16 @@ name_taken depth attr s b above below named after place t named_is after_is = by
         }
 
 -- another name of an argument
+has_of_first : (attr : List ℕ) (s : Statement) (r : Rule) → rule_of s.nodes ≡ Some r → has attr (first_args attr s) ≡ true → has attr r.args ≡ true
+has_of_first attr s r is there = by (first_named attr r.args) refl
+  where
+    first_is : first_args attr s ≡ option_to_list (first_named attr r.args)
+    first_is = ap (λ o. option_to_list (first_named attr (rule_args o))) is
+
+    by : (o : Option Segment) → first_named attr r.args ≡ o → has attr r.args ≡ true
+    by None e = absurd (false≢true (ap (λ o. has attr (option_to_list o)) (sym e) ∙ ap (has attr) (sym first_is) ∙ there))
+    by (Some a) e = is_there attr r.args a e
+
 renames : (old new : List ℕ) (home : Package) (s : Statement) (before after : List ℕ) → (r : Rule) × (rule_of s.nodes ≡ Some r) → IsWithout new s → TakesName old s before after
     → Makes (Rename old new) home s (with_args (args_after (Rename old new) home) s) (told_line true None)
     × (layout_text (with_args (args_after (Rename old new) home) s) ≡ before ++ (new ++ after))

@@ -158,7 +158,9 @@ fn name_place<'a>(found: &Found<'a>, attr: &str) -> Option<NamePlace<'a>>
     if attr != found.attr {
         return None;
     }
-    let place = found.place?;
+    let Some(place) = found.place else {
+        return None;
+    };
     let at = comment_place(found.chunk.written, place)?;
     let (_, named) = at.below.split_at_checked("\n    ".len())?;
     let (_, after) = named.split_at_checked(attr.len())?;

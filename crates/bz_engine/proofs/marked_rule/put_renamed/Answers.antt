@@ -1,4 +1,4 @@
-use Rattle.std.proofs.Common.{true, ◌∙◌, sym, ap, subst}
+use Rattle.std.proofs.Common.{[], true, ◌∙◌, sym, ap, subst}
 use Rattle.std.specs.Prelude.{Some}
 use Rattle.bz_attribute.specs.Effects.{with_args}
 use Rattle.bz_rule.specs.Commands.{args_after}
