@@ -84,7 +84,7 @@ has_sealed line depth names s found noted has at is =
     let front : take (get_or spans 0 no_span).from chunk ≡ F = front_cut names r has.stands chunk spanned.back spans no_span some spanned.spanned.are spanned.chunk_is in
     let first : r.first_line ≡ noted.rule.start = has.begins_on ∙ ap (line_at line) (sym front) ∙ sym (is.start_is no_span) in
     let last : r.last_line ≡ noted.rule.end = omega (arith, has.ends_on ∙ ap (line_at line) (sym is.chunk_is), is.end_is) in
-    let kind : noted.head.kind.now ≡ r.kind = is.kind_is depth names r has.stands spanned in
+    let kind : noted.head.kind.now ≡ r.kind = is.kind_is depth names r has.stands noted.rule.rule.written.now spanned in
     let name : option_map (λ text. text.now) noted.head.name ≡ name_in (the_rule r).args =
     ap (option_map (λ text. text.now)) is.name_is ∙ sym at.is.named ∙ ap (λ (z : Statement). rule_name (rule_of z.nodes)) has.statement_is ∙ ap rule_name (read_rule r) in
     let start : noted.head.start ≡ r.first_line = is.begins_on ∙ sym first in

@@ -54,7 +54,8 @@ pub record IsRuleFound (line : ℕ) (found : Found) (noted : HeadedRule) : Type 
   pub spans_are : noted.rule.rule.spans.now ≡ found.spans.now
   pub start_is : (other : ArgumentSpan) → noted.rule.start ≡ line_at line (take (get_or noted.rule.rule.spans.now 0 other).from noted.rule.chunk.now)
   pub end_is : noted.rule.end + 1 ≡ line_at line noted.rule.chunk.now
-  pub kind_is : (depth : ℕ) (names : List (List ℕ)) (r : NamedRule) (stands : List (List ℕ)) → IsSpannedIn depth names r stands noted.rule.chunk.now noted.rule.rule.written.now noted.rule.rule.spans.now → noted.head.kind.now ≡ r.kind
+  pub kind_is : (depth : ℕ) (names : List (List ℕ)) (r : NamedRule) (stands : List (List ℕ)) (written : List ℕ)
+      → IsSpannedIn depth names r stands noted.rule.chunk.now written noted.rule.rule.spans.now → noted.head.kind.now ≡ r.kind
   pub name_is : noted.head.name ≡ found.chunk.name
   pub begins_on : noted.head.start ≡ noted.rule.start
   pub ends_on : noted.head.end ≡ noted.rule.end
