@@ -1,0 +1,113 @@
+//! Rules that are not read, which one pass alone marks: what its one command makes of them, and tells, by their text.
+//! `canonical.rt` asks.
+
+ghost use Rattle.std.specs.Prelude.{IfOk, OnOk, true};
+ghost use Rattle.bz_passes.specs.Exchange.{Fits};
+ghost use Rattle.bz_engine.specs.private.Edits.{run_of};
+ghost use Rattle.bz_engine.specs.private.Found.{HasItsSpans, IsForOne, IsFoundOn, IsPlaced, LeavesRule, unplaced};
+ghost use Rattle.bz_engine.specs.private.NextChunks.{EditsFound};
+
+use crate::answer::{Unchanged, asked_attribute, is_left_by_text, place_of, printed_by_text};
+use crate::canonical::Found;
+use crate::edit::ScriptRun;
+use crate::failure::message_by_text;
+use crate::marked_rule::{MarkedRule, edit_marked};
+use crate::progress::Progress;
+use crate::written::put_canonical;
+use bz_attribute::Env;
+use bz_memory::NoMemory;
+use bz_rule::Command;
+
+/// Runs the script on the rule by its text. False, with nothing done: the rule is to be seen.
+#[inline(never)]
+pub(crate) fn copy_answered(
+    script: ScriptRun<'_>,
+    marked: MarkedRule<'_>,
+    progress: &mut Progress,
+    text: &mut Vec<u8>,
+) -> Result<bool, NoMemory>
+    requires only { IsForOne script.home.now script.passes.now marked.only
+        (IsFoundOn script.max_depth progress.old.line (unplaced marked.found.now)) }
+    requires fits { Fits progress.old.kept script.passes.now }
+    requires spans { HasItsSpans script.max_depth script.passes.now marked.found.now }
+    ensures { IfOk result (EditsFound (run_of script.entry) marked.entry.found.now progress.old progress.new
+        text.old.items text.new.items) }
+{
+    let MarkedRule { only, found } = marked;
+    let env = Env {
+        alloc: script.alloc,
+        home: script.home,
+    };
+    let mut buffer = String::new(script.alloc);
+    if let Some(unchanged) = printed_by_text(env, only.command, found, &mut buffer)? {
+        put_unchanged(script, marked, unchanged, progress, text)?;
+        return Ok(true);
+    }
+    let placed = with_place(script, found, only.command);
+    let marked = MarkedRule {
+        only,
+        found: &placed,
+    };
+    copy_placed(script, marked, progress, text)
+}
+
+/// The chunk with the place of the argument that the command looks at.
+fn with_place<'a>(script: ScriptRun<'_>, found: &Found<'a>, command: &'a Command) -> Found<'a>
+    ensures { IsPlaced script.entry.passes.now found.now result }
+{
+    let attr = asked_attribute(command);
+    Found {
+        attr,
+        place: place_of(script, found, attr),
+        ..*found
+    }
+}
+
+/// Runs the script on the rule by the first of these: the one command leaves it as it is, tells a message of it, or edits
+/// one argument.
+fn copy_placed(
+    script: ScriptRun<'_>,
+    marked: MarkedRule<'_>,
+    progress: &mut Progress,
+    text: &mut Vec<u8>,
+) -> Result<bool, NoMemory>
+    requires only { IsForOne script.home.now script.passes.now marked.only
+        (IsFoundOn script.max_depth progress.old.line marked.found.now) }
+    requires fits { Fits progress.old.kept script.passes.now }
+    requires spans { HasItsSpans script.max_depth script.passes.now marked.found.now }
+    ensures { IfOk result (EditsFound (run_of script.entry) marked.entry.found.now progress.old progress.new
+        text.old.items text.new.items) }
+{
+    let MarkedRule { only, found } = marked;
+    if is_left_by_text(script.home, only.command, found) {
+        let unchanged = Unchanged { line: None };
+        put_unchanged(script, marked, unchanged, progress, text)?;
+        return Ok(true);
+    }
+    if let Some(message) = message_by_text(script, only.command, found)? {
+        progress.keep_message(only.at, message)?;
+        put_canonical(script, found.chunk, progress, text)?;
+        return Ok(true);
+    }
+    edit_marked(script, marked, progress, text)
+}
+
+/// Writes the rule, which the command leaves as it is.
+fn put_unchanged(
+    script: ScriptRun<'_>,
+    marked: MarkedRule<'_>,
+    unchanged: Unchanged<'_>,
+    progress: &mut Progress,
+    text: &mut Vec<u8>,
+) -> Result<(), NoMemory>
+    requires only { IsForOne script.home.now script.passes.now marked.only
+        (IsFoundOn script.max_depth progress.old.line marked.found.now) }
+    requires fits { Fits progress.old.kept script.passes.now }
+    requires leaves { LeavesRule marked.only.command.now script.home.now marked.found.now unchanged }
+    ensures { OnOk result (EditsFound (run_of script.entry) marked.entry.found.now progress.old progress.new
+        text.old.items text.new.items true) }
+{
+    let MarkedRule { only, found } = marked;
+    progress.keep_line(only.at, unchanged.line)?;
+    put_canonical(script, found.chunk, progress, text)
+}
