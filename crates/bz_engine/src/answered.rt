@@ -4,22 +4,23 @@
 ghost use Rattle.std.specs.Prelude.{IfOk, OnOk, true};
 ghost use Rattle.bz_passes.specs.Exchange.{Fits};
 ghost use Rattle.bz_engine.specs.private.Edits.{run_of};
-ghost use Rattle.bz_engine.specs.private.Found.{HasItsSpans, IsForOne, IsFoundOn, IsPlaced, LeavesRule, unplaced};
+ghost use Rattle.bz_engine.specs.private.Found.{HasItsSpans, IsForOne, IsFoundOn, IsPlaced, LeavesRule, TellsRule, unplaced};
 ghost use Rattle.bz_engine.specs.private.NextChunks.{EditsFound};
 
-use crate::answer::{Unchanged, asked_attribute, is_left_by_text, place_of, printed_by_text};
+use crate::answer::{Unchanged, asked_attribute, left_by_text, place_of, printed_by_text};
 use crate::canonical::Found;
 use crate::edit::ScriptRun;
-use crate::failure::message_by_text;
+use crate::failure::{Message, failure_by_text, missing_by_text};
 use crate::marked_rule::{MarkedRule, edit_marked};
 use crate::progress::Progress;
 use crate::written::put_canonical;
 use bz_attribute::Env;
 use bz_memory::NoMemory;
 use bz_rule::Command;
+use bz_rule::forms::printed_by;
 
 /// Runs the script on the rule by its text. False, with nothing done: the rule is to be seen.
-#[inline(never)]
+#[inline(always)]
 pub(crate) fn copy_answered(
     script: ScriptRun<'_>,
     marked: MarkedRule<'_>,
@@ -33,6 +34,26 @@ pub(crate) fn copy_answered(
     ensures { IfOk result (EditsFound (run_of script.entry) marked.entry.found.now progress.old progress.new
         text.old.items text.new.items) }
 {
+    match printed_by(marked.only.command) {
+        Some(_) => copy_printed(script, marked, progress, text),
+        None => copy_edited(script, marked, progress, text),
+    }
+}
+
+/// The same of a command that prints: its name is printed, or that it has none.
+#[inline(never)]
+fn copy_printed(
+    script: ScriptRun<'_>,
+    marked: MarkedRule<'_>,
+    progress: &mut Progress,
+    text: &mut Vec<u8>,
+) -> Result<bool, NoMemory>
+    requires only { IsForOne script.home.now script.passes.now marked.only
+        (IsFoundOn script.max_depth progress.old.line (unplaced marked.found.now)) }
+    requires fits { Fits progress.old.kept script.passes.now }
+    ensures { IfOk result (EditsFound (run_of script.entry) marked.entry.found.now progress.old progress.new
+        text.old.items text.new.items) }
+{
     let MarkedRule { only, found } = marked;
     let env = Env {
         alloc: script.alloc,
@@ -43,6 +64,31 @@ pub(crate) fn copy_answered(
         put_unchanged(script, marked, unchanged, progress, text)?;
         return Ok(true);
     }
+    match missing_by_text(script, only.command, found)? {
+        Some(message) => {
+            put_message(script, marked, message, progress, text)?;
+            Ok(true)
+        }
+        None => Ok(false),
+    }
+}
+
+/// The same of another command, with the place of the argument that it looks at.
+#[inline(never)]
+fn copy_edited(
+    script: ScriptRun<'_>,
+    marked: MarkedRule<'_>,
+    progress: &mut Progress,
+    text: &mut Vec<u8>,
+) -> Result<bool, NoMemory>
+    requires only { IsForOne script.home.now script.passes.now marked.only
+        (IsFoundOn script.max_depth progress.old.line (unplaced marked.found.now)) }
+    requires fits { Fits progress.old.kept script.passes.now }
+    requires spans { HasItsSpans script.max_depth script.passes.now marked.found.now }
+    ensures { IfOk result (EditsFound (run_of script.entry) marked.entry.found.now progress.old progress.new
+        text.old.items text.new.items) }
+{
+    let MarkedRule { only, found } = marked;
     let placed = with_place(script, found, only.command);
     let marked = MarkedRule {
         only,
@@ -79,14 +125,12 @@ fn copy_placed(
         text.old.items text.new.items) }
 {
     let MarkedRule { only, found } = marked;
-    if is_left_by_text(script.home, only.command, found) {
-        let unchanged = Unchanged { line: None };
+    if let Some(unchanged) = left_by_text(script.home, only.command, found) {
         put_unchanged(script, marked, unchanged, progress, text)?;
         return Ok(true);
     }
-    if let Some(message) = message_by_text(script, only.command, found)? {
-        progress.keep_message(only.at, message)?;
-        put_canonical(script, found.chunk, progress, text)?;
+    if let Some(message) = failure_by_text(script, only.command, found)? {
+        put_message(script, marked, message, progress, text)?;
         return Ok(true);
     }
     edit_marked(script, marked, progress, text)
@@ -109,5 +153,25 @@ fn put_unchanged(
 {
     let MarkedRule { only, found } = marked;
     progress.keep_line(only.at, unchanged.line)?;
+    put_canonical(script, found.chunk, progress, text)
+}
+
+/// Writes the rule, of which the command tells this message.
+fn put_message(
+    script: ScriptRun<'_>,
+    marked: MarkedRule<'_>,
+    message: Message,
+    progress: &mut Progress,
+    text: &mut Vec<u8>,
+) -> Result<(), NoMemory>
+    requires only { IsForOne script.home.now script.passes.now marked.only
+        (IsFoundOn script.max_depth progress.old.line marked.found.now) }
+    requires fits { Fits progress.old.kept script.passes.now }
+    requires tells { TellsRule script.keep_going marked.only.command.now script.home.now marked.found.now message }
+    ensures { OnOk result (EditsFound (run_of script.entry) marked.entry.found.now progress.old progress.new
+        text.old.items text.new.items true) }
+{
+    let MarkedRule { only, found } = marked;
+    progress.keep_message(only.at, message)?;
     put_canonical(script, found.chunk, progress, text)
 }

@@ -55,7 +55,6 @@ pub(crate) fn find_marking<'p>(
 }
 
 /// The same, where it may be known by the name alone.
-#[inline(always)]
 fn by_name<'p>(script: ScriptRun<'p>, found: &Found<'_>) -> Marking<'p>
     ensures { (line : ℕ) → spec.IsMarking (run_of script.entry) line found.now result }
 {
