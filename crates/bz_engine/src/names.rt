@@ -2,7 +2,7 @@
 
 ghost use Rattle.std.specs.Prelude.{◌≡◌, IfOk, None, Some, bytes_eq, if◌then◌else◌, map};
 ghost use Rattle.std.specs.List.{position};
-ghost use Rattle.bz_token.specs.Lexical.{is_one_of};
+ghost use Rattle.bz_token.specs.Common.{is_one_of};
 ghost use Rattle.bz_engine.specs.private.Sealed as spec;
 
 use bz_label::Text;

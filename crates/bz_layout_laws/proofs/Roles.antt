@@ -5,7 +5,7 @@ use Rattle.std.specs.Str.{bytes_eq}
 use Rattle.std.proofs.lemmas.Bool.{cases_Bool, or_cases, false≢true, eqb-true}
 use Rattle.bz_token.specs.declared.token.Kind.{Kind}
 use Rattle.bz_token.specs.declared.token.Kind.TheVariants.{Identifier, Keyword, Integer, String, Operator as OperatorToken}
-use Rattle.bz_token.specs.Lexical.{is_text, is_one_of}
+use Rattle.bz_token.specs.Lexical.{is_text}
 use Rattle.bz_token.proofs.Classes.{mark, class_of, can_start, same_bytes, text_class}
 use Rattle.bz_tree.specs.declared.tree.GroupKind.{GroupKind}
 use Rattle.bz_tree.specs.declared.grammar.role.Role.{Role}
@@ -20,7 +20,7 @@ use Rattle.bz_layout_laws.specs.Following.{MayStandIn}
 use Rattle.bz_layout_laws.specs.Legible.{is_later, begins_later}
 use Rattle.bz_layout_laws.specs.TextsOfKinds.{HasText}
 use Rattle.bz_layout_laws.proofs.NoBrackets.{is_operator_kind, mark_starts}
-use Rattle.bz_token.specs.Common.{begins}
+use Rattle.bz_token.specs.Common.{begins, is_one_of}
 
 -- tokens that begin with no byte that stands second or third in an operator
 abbrev pub stands_apart : Role → Bool

@@ -2,7 +2,7 @@
 
 ghost use Rattle.std.specs.Prelude.{◌≡◌, ℕ, Bool, List, Some, codes, true};
 ghost use Rattle.std.specs.List.{list_all};
-ghost use Rattle.bz_token.specs.Lexical.{is_one_of};
+ghost use Rattle.bz_token.specs.Common.{is_one_of};
 ghost use Rattle.bz_label.specs.Labels.{Package};
 ghost use Rattle.bz_tree.specs.Tree.{Segment, Statement};
 ghost use Rattle.bz_rule.specs.Commands.{Command};

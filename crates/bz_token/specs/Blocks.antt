@@ -10,7 +10,8 @@ use Rattle.bz_token.specs.Lexical.{is_word_byte}
 use Rattle.bz_token.specs.declared.cutter.block.Opener.{Opener}
 use Rattle.bz_token.specs.declared.cutter.block.Opener.TheVariants.{Def, For, If}
 
--- What stands after white space and continued lines, if it stands in column 1; `first`: this is column 1.
+-- What stands after white space and continued lines, if it stands in column 1; `first`: this is column 1. The
+-- bytes come as `units`, in which a backslash and the newline after it are one.
 -- (`cond b x y` is x if b, else y.)
 abbrev pub head_from : Bool → List (List ℕ) → List ℕ
 head_from first [] = []

@@ -13,8 +13,7 @@ use Rattle.bz_tree.specs.declared.tree.kinds.Preceding.TheVariants.{Other as Oth
 use Rattle.bz_tree.specs.Tree.{Item, leaf, group, Segment, Statement, is_rule}
 use Rattle.bz_tree.specs.Owners.{Inner, end_comments, cell_segment}
 use Rattle.bz_tree.specs.Brackets.{AreNested, own_items, end_line, without_lines}
-use Rattle.bz_token.specs.Common.{first_of, map_or}
-use Rattle.bz_token.specs.Lexical.{is_one_of}
+use Rattle.bz_token.specs.Common.{first_of, map_or, is_one_of}
 use Rattle.std.specs.List.{list_any, last_or}
 use Rattle.std.specs.Option.{option_or}
 

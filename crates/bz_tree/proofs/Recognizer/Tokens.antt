@@ -6,7 +6,7 @@ use Rattle.std.specs.List.{AllByRecursion, list_any}
 use Rattle.std.proofs.lemmas.Bool.{false≢true, or_cases, or_left, or_right}
 use Rattle.std.proofs.lemmas.Slice.Eq.{bytes_eq-Decides}
 use Rattle.bz_token.specs.declared.token.Kind.TheVariants.{Identifier, Keyword, Integer, String, Operator as OperatorToken}
-use Rattle.bz_token.specs.Lexical.{is_one_of}
+use Rattle.bz_token.specs.Common.{is_one_of}
 use Rattle.bz_tree.specs.declared.grammar.role.Role.{Role}
 use Rattle.bz_tree.specs.declared.grammar.role.Role.TheVariants.{Name, Number, Value, Dot, Comma, Colon, Equals, Augmented, If, Else, For, In, Not, Tilde, Sum, Star, Stars, Operator, Stray}
 use Rattle.bz_tree.specs.Tree.{Item, leaf, group}

@@ -28,8 +28,7 @@ use Rattle.bz_tree.proofs.Recognizer.Accepted.{refused}
 use Rattle.bz_tree.proofs.Recognizer.Meant.{is_apart, leaf_plain}
 use Rattle.bz_tree.proofs.Recognizer.Recognized.{load_word}
 use Rattle.bz_tree.proofs.Rows.RowParts.{read_item, read_items, shown_item, shown, item_stage, accepts_read}
-use Rattle.bz_token.specs.Common.{is_empty}
-use Rattle.bz_token.specs.Lexical.{is_one_of}
+use Rattle.bz_token.specs.Common.{is_empty, is_one_of}
 use Rattle.std.specs.List.{list_any}
 use Rattle.std.proofs.Math.Bool.{or-false, or_assoc}
 use Rattle.bz_tree.proofs.Trees.OneBracket.{same_either}

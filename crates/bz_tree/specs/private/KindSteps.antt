@@ -2,7 +2,7 @@
 use Rattle.std.specs.Prelude.{codes, List, ◌∷◌, ℕ, Bool, true, false, if◌then◌else◌, Option, Some}
 use Rattle.bz_token.specs.declared.token.Kind.{Kind}
 use Rattle.bz_token.specs.declared.token.Kind.TheVariants.{Identifier}
-use Rattle.bz_token.specs.Lexical.{is_one_of}
+use Rattle.bz_token.specs.Common.{is_one_of}
 use Rattle.bz_tree.specs.declared.tree.kinds.Shape.{Shape}
 use Rattle.bz_tree.specs.declared.tree.kinds.Shape.TheVariants.{Round, Square, Curly}
 use Rattle.bz_tree.specs.declared.tree.kinds.Preceding.{Preceding}

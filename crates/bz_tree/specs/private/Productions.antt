@@ -11,7 +11,7 @@ use Rattle.bz_tree.specs.declared.grammar.role.Role.TheVariants.{Name, Number, V
 use Rattle.bz_tree.specs.Tree.{Item, leaf, group, Items, no_items, item, Segs, no_segs, seg, is_call}
 use Rattle.bz_tree.specs.Statement.{is_load_word}
 use Rattle.bz_tree.specs.private.KindSteps.{is_augmented}
-use Rattle.bz_token.specs.Lexical.{is_one_of}
+use Rattle.bz_token.specs.Common.{is_one_of}
 
 abbrev pub word_role : List ℕ → Role
 word_role text =
