@@ -6,7 +6,7 @@ use Rattle.std.specs.Prelude.{nat_eq, not, ◌&&◌}
 use Rattle.std.proofs.lemmas.Bool.{cases_Bool, or_parts}
 use Rattle.std.proofs.lemmas.List.{append_cancel_right, same_from_push}
 use Rattle.bz_token.proofs.Classes.{same_bytes}
-use Rattle.bz_label.specs.Labels.{Package, is_colon, is_slash, last_of, parts_of}
+use Rattle.bz_label.specs.Labels.{Package, is_colon, is_slash, last_part, parts_of}
 use Rattle.bz_label.specs.Same.{completed, in_package, is_local, with_name}
 use Rattle.bz_label.proofs.Cuts.{last_cons, some_part}
 
@@ -30,20 +30,20 @@ not_nothing : (front : List ℕ) (x : ℕ) (xs : List ℕ) → [] ≡ front ++ x
 not_nothing [] x xs h = cc
 not_nothing (y ∷ front) x xs h = cc
 
-last_onto : (b : ℕ) (parts : List (List ℕ)) (x : ℕ) (xs : List ℕ) → EndsIn (last_of parts) (x ∷ xs) → EndsIn (last_of (onto_first b parts)) (x ∷ xs)
+last_onto : (b : ℕ) (parts : List (List ℕ)) (x : ℕ) (xs : List ℕ) → EndsIn (last_part parts) (x ∷ xs) → EndsIn (last_part (onto_first b parts)) (x ∷ xs)
 last_onto b [] x xs h = absurd (not_nothing h.front x xs h.is)
 last_onto b (p ∷ []) x xs h = after (b ∷ []) p (x ∷ xs) h
 last_onto b (p ∷ q ∷ parts) x xs h = h
 
-last_ends : (text : List ℕ) (x : ℕ) (xs : List ℕ) → list_any is_slash (x ∷ xs) ≡ false → EndsIn (last_of (parts_of (text ++ x ∷ xs))) (x ∷ xs)
-last_ends [] x xs h = record { front = []; is = ap last_of (one_part (x ∷ xs) h) }
+last_ends : (text : List ℕ) (x : ℕ) (xs : List ℕ) → list_any is_slash (x ∷ xs) ≡ false → EndsIn (last_part (parts_of (text ++ x ∷ xs))) (x ∷ xs)
+last_ends [] x xs h = record { front = []; is = ap last_part (one_part (x ∷ xs) h) }
 last_ends (b ∷ text) x xs h = elim (cases_Bool (is_slash b)) [
   | inl is ↦ rw is (subst (λ (zs : List ℕ). EndsIn zs (x ∷ xs)) (sym (last_cons [] (parts_of (text ++ x ∷ xs)) (some_part is_slash (text ++ x ∷ xs)))) (last_ends text x xs h))
   | inr other ↦ rw other (last_onto b (parts_of (text ++ x ∷ xs)) x xs (last_ends text x xs h))
 ]
 
-last_part_ends : (text : List ℕ) (x : ℕ) (xs : List ℕ) → list_any is_slash (x ∷ xs) ≡ false → EndsIn text (x ∷ xs) → EndsIn (last_of (parts_of text)) (x ∷ xs)
-last_part_ends text x xs h ends = subst (λ (zs : List ℕ). EndsIn (last_of (parts_of zs)) (x ∷ xs)) (sym ends.is) (last_ends ends.front x xs h)
+last_part_ends : (text : List ℕ) (x : ℕ) (xs : List ℕ) → list_any is_slash (x ∷ xs) ≡ false → EndsIn text (x ∷ xs) → EndsIn (last_part (parts_of text)) (x ∷ xs)
+last_part_ends text x xs h ends = subst (λ (zs : List ℕ). EndsIn (last_part (parts_of zs)) (x ∷ xs)) (sym ends.is) (last_ends ends.front x xs h)
 
 -- a label in full
 colon_ends : (text end : List ℕ) → EndsIn text end → EndsIn (if is_local text then 58 ∷ text else text) end
@@ -61,8 +61,8 @@ named_ends path name end h k = one_of (bytes_eq name []) path (path ++ 58 ∷ na
 
 name_ends : (text : List ℕ) (x : ℕ) (xs : List ℕ) → list_any is_slash (x ∷ xs) ≡ false → EndsIn text (x ∷ xs) → EndsIn (with_name text) (x ∷ xs)
 name_ends text x xs slash h =
-    one_of (starts_with nat_eq text (codes "//") && not (list_any is_colon text)) (if bytes_eq (last_of (parts_of text)) [] then text else text ++ 58 ∷ (last_of (parts_of text))) text (x ∷ xs)
-    (named_ends text (last_of (parts_of text)) (x ∷ xs) h (last_part_ends text x xs slash h)) h
+    one_of (starts_with nat_eq text (codes "//") && not (list_any is_colon text)) (if bytes_eq (last_part (parts_of text)) [] then text else text ++ 58 ∷ (last_part (parts_of text))) text (x ∷ xs)
+    (named_ends text (last_part (parts_of text)) (x ∷ xs) h (last_part_ends text x xs slash h)) h
 
 completed_ends : (home : Package) (text : List ℕ) (x : ℕ) (xs : List ℕ) → list_any is_slash (x ∷ xs) ≡ false → EndsIn text (x ∷ xs) → EndsIn (completed home text) (x ∷ xs)
 completed_ends home text x xs slash h =

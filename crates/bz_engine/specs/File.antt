@@ -1,7 +1,6 @@
 -- The statements of a file: those of its chunks in order, up to the first chunk with a fault (this project's
 -- own rule).
 -- Begin with `IsFile`.
--- Of later stops: 8 `chunks`, `column_at`, `line_at`.
 use Rattle.bz_memory.specs.NoMemory.{no_memory}
 use Rattle.std.specs.Prelude.{◌≡◌, ◌≢◌, ℕ, List, [], ◌∷◌, take, Option, None, Some, Result, Ok, Err}
 use Rattle.std.specs.Str.{IsUtf8, IsValidUpTo}

@@ -39,7 +39,7 @@ abbrev pub lined : ℕ → List ℕ → List ℕ
 lined line what = decimal line ++ codes ": " ++ what
 
 -- the text of a lexical fault (`LexFault`, in `src/fault.rt` of bz_token). Want of memory, here and below, is
--- the fault of no file: `IsAnswerOf` and `IsFaultIn` (stop 7) leave it out.
+-- the fault of no file: `IsAnswerOf` and `IsFaultIn` (stop 4) leave it out.
 abbrev pub lex_text : LexFault → List ℕ
 lex_text (OutOfMemory _) = codes "out of memory"
 lex_text (BadCharacter line col) = placed line col (codes "bad character")

@@ -1,6 +1,5 @@
 -- The reads of a run: each was needed (this project's own rule).
 -- Begin with `AreReads`.
--- Of later stops: 4 `Package`, `Statement`; 7 `AreStatementsOf`; 8 `chunks`.
 use Rattle.std.specs.Prelude.{◌≡◌, ℕ, ◌+◌, ◌≤◌, false, IsTrue, List, [], ◌∷◌, ◌++◌, length, None, ⊤}
 use Rattle.std.specs.List.{concat}
 use Rattle.bz_token.specs.Chunks.{chunks}

@@ -1,6 +1,5 @@
 -- Where a run stops, and what it has done then (this project's own rule).
 -- Begin with `HasEndedAt` and `HasStopped`.
--- Of later stops: 4 `Statement`; 7 `IsAnswerOf`; 8 `chunks`, `line_at`.
 use Rattle.std.specs.Prelude.{◌≡◌, ◌≢◌, ◌⊎◌, ℕ, ◌≤◌, true, false, List, [], ◌∷◌, ◌++◌, length, Some, Ok, Err, ⊤}
 use Rattle.std.specs.List.{concat, AllByRecursion}
 use Rattle.bz_token.specs.Chunks.{chunks}

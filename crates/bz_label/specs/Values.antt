@@ -1,9 +1,8 @@
 -- The values of string literals (Starlark specification, "String literals"), and how a value is written as
 -- one. Which literals have no value, and the written form, are this project's own rule. A unit is a byte, or
--- an escape: a backslash and what it takes along (stop 8, `units`). `Opening`, of `src/scan_string.rt` of
+-- an escape: a backslash and what it takes along (bz_token `Strings`, `units`). `Opening`, of `src/scan_string.rt` of
 -- bz_token, has the number of prefix letters and the quotes.
 -- Begin with `value_of` and `quoted`.
--- Of later stops: 8 `inside`, `is_byte`, `is_string`, `opening`, `quote_count`.
 use Rattle.std.specs.Prelude.{ℕ, ◌-◌, ◌≡◌, ◌⊎◌, not, ◌==◌, List, [], ◌∷◌, ◌++◌, Bool, true, false, ◌&&◌, if◌then◌else◌, Option, Some, None, option_map, codes, length, take, bytes_eq, option_and_then}
 use Rattle.std.specs.List.{list_all, flat_map, find}
 use Rattle.bz_token.specs.declared.token.Kind.{Kind}

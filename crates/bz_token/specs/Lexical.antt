@@ -9,6 +9,7 @@ use Rattle.bz_token.specs.declared.token.Kind.{Kind}
 use Rattle.bz_token.specs.declared.token.Kind.TheVariants.{Identifier, Keyword, Integer, String, Operator, Newline, Comment, Kept}
 use Rattle.bz_token.specs.Strings.{opening, is_string}
 use Rattle.bz_token.specs.Pieces.{is_blank}
+use Rattle.bz_token.specs.Pieces as pieces
 use Rattle.bz_token.specs.Common.{begins, is_empty, is_newline, is_one_of, map_or}
 
 -- ASCII letters, digits and underscores
@@ -71,11 +72,11 @@ ends_blank [] = false
 ends_blank (b ∷ []) = is_blank b
 ends_blank (b ∷ c ∷ bs) = ends_blank (c ∷ bs)
 
--- a comment of `Pieces`, but without white space at its end: as a token a comment has none
+-- a comment as in `Pieces`, but one that does not end in white space
 abbrev pub is_comment : List ℕ → Bool
-is_comment text = begins (λ b. b == 35) text && not (list_any is_newline text) && not (ends_blank text)
+is_comment text = pieces.is_comment text && not (ends_blank text)
 
--- a text of this kind
+-- a text of this kind (no token is `Kept`: that is the kind of a whole block in a tree, bz_tree `Blocks`)
 abbrev pub is_text : Kind → List ℕ → Bool
 is_text Identifier text = is_name text && not (is_keyword text)
 is_text Keyword text = is_keyword text

@@ -3,7 +3,7 @@
 -- Begin with `is_piece` and `is_space`.
 use Rattle.std.specs.Prelude.{ℕ, List, [], ◌∷◌, Bool, true, false, not, ◌&&◌, ◌||◌, ◌==◌, bytes_eq}
 use Rattle.std.specs.List.{list_any}
-use Rattle.bz_token.specs.Common.{is_newline, map_or}
+use Rattle.bz_token.specs.Common.{begins, is_newline, map_or}
 use Rattle.bz_token.specs.Strings.{opens_after, inside, has_break, is_one_string}
 
 -- a string without its prefix: closed, broken off, or open to the end of the text
@@ -18,8 +18,7 @@ is_broken_off text =
 -- a number sign (35) and what follows it on its line, white space at its end too (as a token it ends before
 -- that: `is_comment` of `Lexical`)
 abbrev pub is_comment : List ℕ → Bool
-is_comment [] = false
-is_comment (b ∷ bs) = b == 35 && not (list_any is_newline bs)
+is_comment text = begins (λ b. b == 35) text && not (list_any is_newline text)
 
 -- a backslash directly before a newline, or before a carriage return and a newline (92, 10 and 13)
 abbrev pub is_continued : List ℕ → Bool

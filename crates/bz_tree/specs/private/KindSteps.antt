@@ -10,7 +10,8 @@ use Rattle.bz_tree.specs.Tree.{leaf, is_operator_item}
 use Rattle.bz_tree.specs.Kinds.{after_item}
 use Rattle.bz_tree.specs.Owners.{Inner}
 use Rattle.bz_tree.specs.Brackets.{as_node, is_for_item}
-use Rattle.bz_tree.specs.Statement.{augmented}
+use Rattle.bz_token.specs.Lexical.{augmented}
+use Rattle.bz_tree.specs.Statement.{assignments}
 
 abbrev pub is_ident : Kind → Bool
 is_ident Identifier = true
@@ -29,7 +30,7 @@ abbrev pub is_augmented : List ℕ → Bool
 is_augmented text = is_one_of augmented text
 
 abbrev pub is_assign_operator : List ℕ → Bool
-is_assign_operator text = is_one_of (codes "=" ∷ augmented) text
+is_assign_operator text = is_one_of assignments text
 
 abbrev pub own_item : Bool → Inner → Inner
 own_item one own = if one then as_node own else own
