@@ -52,7 +52,8 @@ abbrev pub elements : Item → List Segment
 elements (leaf kind text) = []
 elements (group kind segs one_comma end) = segments segs
 
--- the rule with this kind and this call, a `RuleCall` in each rule that was read (bz_tree, `segment_of`)
+-- The rule with this kind and this call. Of the calls that `is_rule` allows this takes a `RuleCall` alone: in
+-- a statement that was read the call of a rule is one (bz_tree, `segment_of`).
 abbrev pub with_call : List Item → Option Item → Option Rule
 with_call kind (Some (group RuleCall segs one_comma end)) =
     Some (record { kind = kind; args = segments segs; one_comma = one_comma; end = end })

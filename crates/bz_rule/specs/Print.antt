@@ -116,7 +116,7 @@ abbrev pub field_mentions : List ℕ → Field → Bool
 field_mentions name (ValueOf attr) = bytes_eq attr name
 field_mentions name _ = false
 
--- without fields the name is printed
+-- whether `print` of these fields mentions the attribute; without fields it mentions `name` (`fields_of`)
 abbrev pub print_mentions : List ℕ → List Field → Bool
 print_mentions name [] = bytes_eq name (codes "name")
 print_mentions name (field ∷ fields) = list_any (field_mentions name) (field ∷ fields)
