@@ -14,7 +14,8 @@ use bz_tree::{GroupKind, Part};
 #[tactic(auto, using(crate::proofs::OnlyLists::value_ended, crate::proofs::Slices::rest_seen))]
 pub fn value_end(parts: &[Part<'_>], value: usize) -> usize
     requires { value ≤ length parts.now }
-    ensures end { ForValue (map part_view parts.now) value (λ nodes after ps. drop result ps ≡ segment_end ∷ after) }
+    ensures end { ForValue (map part_view parts.now) value
+        (λ nodes after ps. drop result ps ≡ segment_end ∷ after) }
     ensures within { (value ≤ result) × (result ≤ length parts.now) }
 {
     value + parts_len(&parts[value..], true)
@@ -34,7 +35,8 @@ fn ends_value(parts: &[Part<'_>]) -> bool
 
 // The value that they begin with is one list.
 pub(crate) fn is_one_list(parts: &[Part<'_>]) -> bool
-    ensures told { ForValue (map part_view parts.now) 0 (λ nodes after ps. result ≡ is_some (only_list nodes)) }
+    ensures told { ForValue (map part_view parts.now) 0
+        (λ nodes after ps. result ≡ is_some (only_list nodes)) }
     ensures some { result ≡ true → 0 < length parts.now }
 {
     begins_list(parts) && ends_value(&parts[item_end(parts, 0)..])
@@ -44,7 +46,8 @@ pub(crate) fn is_one_list(parts: &[Part<'_>]) -> bool
 #[tactic(auto, using(crate::proofs::OnlyLists::only_there, crate::proofs::Slices::rest_seen))]
 pub fn only_list(parts: &[Part<'_>], value: usize) -> Option<usize>
     requires { value ≤ length parts.now }
-    ensures list { ForValue (map part_view parts.now) value (λ nodes after ps. OnlyList nodes after ps result) }
+    ensures list { ForValue (map part_view parts.now) value
+        (λ nodes after ps. OnlyList nodes after ps result) }
     ensures within { IfSome result (λ list. list ≤ length parts.now) }
 {
     if !is_one_list(&parts[value..]) {
