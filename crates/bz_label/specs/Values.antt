@@ -1,6 +1,6 @@
 -- The values of string literals (Starlark specification, "String literals"), and how a value is written as
 -- one. Which literals have no value, and the written form, are this project's own rule. A unit is a byte, or
--- an escape: a backslash and what it takes along (bz_token `Strings`, `units`). `Opening`, of `src/scan_string.rt` of
+-- an escape: a backslash and what it takes along (`units` of bz_token). `Opening`, of `src/scan_string.rt` of
 -- bz_token, has the number of prefix letters and the quotes.
 -- Begin with `value_of` and `quoted`.
 use Rattle.std.specs.Prelude.{ℕ, ◌-◌, ◌≡◌, ◌⊎◌, not, ◌==◌, List, [], ◌∷◌, ◌++◌, Bool, true, false, ◌&&◌, if◌then◌else◌, Option, Some, None, option_map, codes, length, take, bytes_eq, option_and_then}
