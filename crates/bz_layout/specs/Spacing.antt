@@ -2,7 +2,7 @@
 -- Begin with `gap_before`.
 -- Everywhere `within` is the kind of the group around the nodes, and `before` what stands before a node, the
 -- nearest first.
-use Rattle.std.specs.Prelude.{codes, List, [], ◌∷◌, ℕ, Bool, true, false, not, ◌&&◌, ◌||◌, if◌then◌else◌, Option, bytes_eq}
+use Rattle.std.specs.Prelude.{codes, List, [], ◌∷◌, Bool, true, false, not, ◌&&◌, ◌||◌, if◌then◌else◌, Option, bytes_eq}
 use Rattle.bz_token.specs.declared.token.Kind.TheVariants.{Keyword, Operator}
 use Rattle.bz_tree.specs.declared.tree.GroupKind.{GroupKind}
 use Rattle.bz_tree.specs.declared.tree.GroupKind.TheVariants.{Load, Index}

@@ -1,5 +1,5 @@
 -- Words on lists, options and texts that the definitions share. A text is the list of its bytes.
--- Begin with `is_empty`, `is_filled`, `first_of`, `last_of`, `begins`, `is_newline`, `is_one_of` and `map_or`.
+-- Begin with `is_empty`, `is_filled`, `first_of`, `last_of`, `begins`, `is_newline`, `is_one_of`, `map_or`.
 use Rattle.std.specs.Prelude.{ℕ, List, [], ◌∷◌, Bool, true, false, ◌==◌, bytes_eq, Option, None, Some}
 use Rattle.std.specs.List.{last_or, list_any}
 

@@ -3,14 +3,14 @@
 -- reserved are identifiers, a decimal number may begin with 0.
 -- Begin with `IsToken`.
 use Rattle.std.specs.Prelude.{ℕ, ◌≡◌, List, [], ◌∷◌, ◌++◌, length, Bool, true, false, not, ◌&&◌, ◌||◌, ◌==◌, nat_le, codes, bytes_eq, Some, None}
-use Rattle.std.specs.List.{list_all, list_any, prefix_len}
+use Rattle.std.specs.List.{list_all, prefix_len}
 use Rattle.std.specs.Char.{is_ascii_digit, is_ascii_hexdigit, is_ascii_alphabetic}
 use Rattle.bz_token.specs.declared.token.Kind.{Kind}
 use Rattle.bz_token.specs.declared.token.Kind.TheVariants.{Identifier, Keyword, Integer, String, Operator, Newline, Comment, Kept}
 use Rattle.bz_token.specs.Strings.{opening, is_string}
 use Rattle.bz_token.specs.Pieces.{is_blank}
 use Rattle.bz_token.specs.Pieces as pieces
-use Rattle.bz_token.specs.Common.{begins, is_empty, is_newline, is_one_of, map_or}
+use Rattle.bz_token.specs.Common.{begins, is_empty, is_one_of, map_or}
 
 -- ASCII letters, digits and underscores
 abbrev pub is_word_byte : ℕ → Bool
@@ -97,12 +97,11 @@ abbrev pub is_string_kind : Kind → Bool
 is_string_kind String = true
 is_string_kind _ = false
 
--- At a string's opening quotes (`o`) only strings count, at three quotes only long ones (`own` are the quotes
--- of the text); at a digit only all letters, digits and underscores that stand there; anywhere else every
--- text counts.
+-- At a string's opening quotes (`o`) only strings count, at three quotes only long ones (`p` opens the text);
+-- at a digit only all letters, digits and underscores that stand there; anywhere else every text counts.
 abbrev pub counts : List ℕ → Kind → List ℕ → Bool
 counts place kind text = elim (opening place) [
-  | Some o ↦ is_string_kind kind && (map_or false (λ own. own.quotes.long) (opening text) || not o.quotes.long)
+  | Some o ↦ is_string_kind kind && (map_or false (λ p. p.quotes.long) (opening text) || not o.quotes.long)
   | None ↦ elim (begins is_ascii_digit place) [
     | true ↦ is_number_kind kind && (length text == prefix_len is_word_byte place)
     | false ↦ true

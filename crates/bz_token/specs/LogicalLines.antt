@@ -2,7 +2,7 @@
 -- "Lexical elements"). A newline that breaks off a short string ends one too (this project's own rule). A
 -- line here is a list of pieces.
 -- Begin with `lines`.
-use Rattle.std.specs.Prelude.{ℕ, List, [], map, Bool, true, false, not, ◌&&◌, ◌||◌, if◌then◌else◌, None}
+use Rattle.std.specs.Prelude.{ℕ, List, [], map, Bool, true, false, not, ◌&&◌, ◌||◌, if◌then◌else◌}
 use Rattle.std.specs.List.{list_all, concat, fold}
 use Rattle.bz_token.specs.declared.cutter.scan.LineKind.{LineKind}
 use Rattle.bz_token.specs.declared.cutter.scan.LineKind.TheVariants.{Blank, CommentLine, Statement}

@@ -1,7 +1,7 @@
 -- What a list of tokens is by its brackets, without losing one, and what its brackets are as groups (which
 -- bracket is one: Starlark specification, "Grammar reference"; the groups are this project's own form).
 -- Begin with `AreNested`.
-use Rattle.std.specs.Prelude.{codes, ℕ, List, [], ◌∷◌, ◌++◌, Bool, true, false, if◌then◌else◌, ◌==◌, ◌+◌, ◌≡◌, ◌&&◌, length, map, flat_map, count_by, Option, Some, None}
+use Rattle.std.specs.Prelude.{codes, ℕ, List, [], ◌∷◌, ◌++◌, Bool, true, false, if◌then◌else◌, ◌==◌, ◌+◌, ◌≡◌, ◌&&◌, length, map, flat_map, Option, Some, None}
 use Rattle.std.specs.Str.{bytes_eq}
 use Rattle.std.specs.List.{list_any, before_first}
 use Rattle.bz_token.specs.declared.token.Kind.TheVariants.{Keyword}

@@ -1,9 +1,8 @@
 -- The statement that a list of tokens is: its tree, its class and its lines (this project's own form).
 -- Begin with `IsStatementOf`.
-use Rattle.std.specs.Prelude.{codes, ℕ, List, [], ◌∷◌, ◌++◌, map, Bool, true, false, if◌then◌else◌, ◌≡◌, ◌<◌, ◌^◌, None, Option}
-use Rattle.std.specs.Str.{bytes_eq}
+use Rattle.std.specs.Prelude.{codes, ℕ, List, [], ◌∷◌, ◌++◌, map, Bool, true, false, if◌then◌else◌, ◌≡◌, ◌<◌, ◌^◌, Option}
 use Rattle.bz_token.specs.declared.token.Kind.{Kind}
-use Rattle.bz_token.specs.declared.token.Kind.TheVariants.{Keyword, Operator, Comment as CommentToken, Newline, Kept}
+use Rattle.bz_token.specs.declared.token.Kind.TheVariants.{Comment as CommentToken, Newline, Kept}
 use Rattle.bz_token.specs.Places.{Placed}
 use Rattle.bz_tree.specs.declared.tree.GroupKind.TheVariants.{RuleCall}
 use Rattle.bz_tree.specs.declared.tree.Class.{Class}

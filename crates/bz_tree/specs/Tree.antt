@@ -10,8 +10,8 @@ use Rattle.bz_tree.specs.declared.tree.GroupKind.{GroupKind}
 use Rattle.bz_tree.specs.declared.tree.GroupKind.TheVariants.{Call, RuleCall}
 use Rattle.bz_tree.specs.declared.tree.Class.{Class}
 
--- Nodes, and lists as a tree holds them: a type of a spec file holds no ordinary list of itself. `items_of` and
--- `segs_of` make these of ordinary lists, `list_of` and `segments` go back.
+-- Nodes, and lists as a tree holds them: a type of a spec file holds no ordinary list of itself. `items_of`
+-- and `segs_of` make these of ordinary lists, `list_of` and `segments` go back.
 mutual
   -- a node
   pub data Item : Type 0 where
@@ -38,9 +38,9 @@ pub record Segment : Type 0 where
   pub nodes : List Item
   pub suffix : Option (List ℕ)
 
--- A statement: the three parts of a segment (here its own, as commands and the layout ask for them at each
--- step), its class, the line on which its first token begins and the line on which its last one ends. Comments
--- count for these lines only at the end of a block, and where they are alone: then there are no nodes.
+-- A statement: comments, nodes and suffix as of a segment, its class, the line on which its first token begins
+-- and the line on which its last one ends. Comments count for these lines only at the end of a block, and
+-- where they are alone: then there are no nodes.
 pub record Statement : Type 0 where
   pub before : List (List ℕ)
   pub nodes : List Item
@@ -66,8 +66,8 @@ is_call RuleCall = true
 is_call _ = false
 
 -- A rule: identifiers joined by dots, one call and nothing more (the word is that of buildozer's README, what
--- is one is this project's own rule). In a statement that was read its call is always a `RuleCall`
--- (`segment_of` of `Statement`), so `rule_of` (stop 6) asks for no other.
+-- is one is this project's own rule). In a statement that was read this call is a `RuleCall` (`segment_of` of
+-- `Statement`).
 abbrev mutual
   -- from the start, and after a dot
   pub is_rule : List Item → Bool

@@ -1,5 +1,5 @@
 -- For private clauses: tests of a token by its kind and text, of the shapes of two brackets, and what one thing in a bracket is.
-use Rattle.std.specs.Prelude.{codes, List, ◌∷◌, ℕ, Bool, true, false, if◌then◌else◌, Option, Some}
+use Rattle.std.specs.Prelude.{List, ℕ, Bool, true, false, if◌then◌else◌, Option, Some}
 use Rattle.bz_token.specs.declared.token.Kind.{Kind}
 use Rattle.bz_token.specs.declared.token.Kind.TheVariants.{Identifier}
 use Rattle.bz_token.specs.Common.{is_one_of}
