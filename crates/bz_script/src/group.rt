@@ -103,7 +103,7 @@ fn keep_word(
     }
 }
 
-/// Reads each word.
+/// Reads each word of a line: commands and labels, in order.
 fn read_words(alloc: Global, line: u64, words: &[&str]) -> Result<Group, UsageFault>
     ensures labels { result ≢ Err (UsageFault.OutOfMemory no_memory)
         → map_ok (λ group. group.labels.items) result

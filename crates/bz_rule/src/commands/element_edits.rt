@@ -34,7 +34,7 @@ fn place_in(edit: StringEdit<'_, '_, '_>, element: Element<'_>) -> Place
     }
 }
 
-// What it becomes.
+// Writes the string that an element becomes, if it stays.
 fn push_literal(edit: StringEdit<'_, '_, '_>, out: &mut Parts<'_>) -> Result<(), NoMemory>
     ensures { OnOk result (map part_view out.new.items ≡ map part_view out.old.items
         ++ literal_parts (literal_of edit.entry)) }
