@@ -1,6 +1,6 @@
 //! The words of a command, and the labels that they are in its package.
 
-ghost use Rattle.std.specs.Prelude.{◌≡◌, ℕ, List, IfOk, IfSome, IsTrue};
+ghost use Rattle.std.specs.Prelude.{◌≡◌, ℕ, List, false, IfOk, IfSome, IsTrue};
 ghost use Rattle.std.specs.List.{list_any};
 ghost use Rattle.std.proofs.Props.{props};
 ghost use Rattle.bz_attribute.specs.Lists.{same};
@@ -15,7 +15,7 @@ use bz_memory::NoMemory;
 use std::alloc::Global;
 
 /// So many words are compared one by one: to sort them would cost more.
-pub const FEW: usize = 8;
+pub const FEW: usize = 4;
 
 /// Words, and the labels that they are in a package: many are sorted once, so that an element is looked up.
 #[derive(Drop)]
@@ -46,10 +46,7 @@ impl<'a> WordSet<'a> {
             (values.value_of text.now)) self.now.words.now }
     {
         if self.labels.is_none() {
-            return self
-                .words
-                .iter()
-                .any(|word| text_equals(home, text, word.as_str()));
+            return equals_one(home, text, self.words);
         }
         match value_of(text) {
             None => false,
@@ -75,4 +72,17 @@ pub fn is_one_of(home: &Package, value: Bytes<'_>, words: &[Text]) -> bool
     ensures { result ≡ list_any (same home.now (left value.entry)) words.now }
 {
     words.iter().any(|word| same_label(home, value, Bytes::Plain(word.as_str().as_bytes())))
+}
+
+// A string token of this text equals one of some words. They are compared one by one.
+fn equals_one(home: &Package, text: &str, words: &[Text]) -> bool
+    ensures { result ≡ list_any (λ word. map_or false (λ value. same home.now value word)
+        (values.value_of text.now)) words.now }
+{
+    for word in words {
+        if text_equals(home, text, word.as_str()) {
+            return true;
+        }
+    }
+    false
 }

@@ -1,4 +1,4 @@
-use Rattle.std.proofs.Common.{List, map, ◌×◌}
+use Rattle.std.proofs.Common.{List, map}
 use Rattle.bz_tree.specs.Rows.{part_view}
 use Rattle.bz_tree.specs.Tree.{Segment}
 use Rattle.bz_attribute.specs.Elements.{AreLists}
