@@ -38,5 +38,5 @@ pub use place::{Place, all_arguments, argument_place, kind_place, new_place};
 pub use rule::{is_rule, only_text};
 pub use texts::{label, push_home};
 pub use value::{only_list, value_end};
-pub use word_set::WordSet;
+pub use word_set::{FEW, WordSet, is_one_of};
 pub use written::{begin_argument, push_element, push_string, push_token};

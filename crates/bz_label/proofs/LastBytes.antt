@@ -1,10 +1,10 @@
 -- A label in full ends as its text does after the last slash.
-use Rattle.std.proofs.Common.{◌≡◌, ℕ, List, [], ◌∷◌, ◌++◌, Bool, true, false, if◌then◌else◌, Some, None, refl, ap, subst, sym, ◌∙◌, inl, inr, append_assoc, bytes_eq}
+use Rattle.std.proofs.Common.{◌≡◌, ℕ, ◌-◌, ◌<◌, List, [], ◌∷◌, ◌++◌, Bool, true, false, if◌then◌else◌, Some, None, length, get_or, take, refl, ap, subst, sym, ◌∙◌, inl, inr, arith, append_assoc, append-nil, ne_eqb, take_all, bytes_eq}
 use Rattle.std.specs.Prelude.{codes}
 use Rattle.std.specs.List.{list_any, onto_first, starts_with}
 use Rattle.std.specs.Prelude.{nat_eq, not, ◌&&◌}
 use Rattle.std.proofs.lemmas.Bool.{cases_Bool, or_parts}
-use Rattle.std.proofs.lemmas.List.{append_cancel_right, same_from_push}
+use Rattle.std.proofs.lemmas.List.{append_cancel_right, same_from_push, take_more}
 use Rattle.bz_token.proofs.Classes.{same_bytes}
 use Rattle.bz_label.specs.Labels.{Package, is_colon, is_slash, last_part, parts_of}
 use Rattle.bz_label.specs.Same.{completed, in_package, is_local, with_name}
@@ -84,3 +84,41 @@ ends_apart home v word end x y v_ends word_ends slash_x slash_y differ = elim (c
       absurd (differ (same_before a.front b.front end x y (sym a.is ∙ same_bytes (completed home v) (completed home word) same ∙ b.is)))
   | inr other ↦ other
 ]
+
+pub split_last : (bs : List ℕ) (d : ℕ) → 0 < length bs → bs ≡ take (length bs - 1) bs ++ get_or bs (length bs - 1) d ∷ []
+split_last bs d some = sym (take_all (length bs) bs (omega arith)) ∙ ap (λ (n : ℕ). take n bs) (omega (arith, some)) ∙ take_more bs (length bs - 1) d (omega (arith, some))
+
+-- the two end in the same bytes, none of them a slash, after what is left of them
+pub record HaveEnd (a b a_left b_left : List ℕ) : Type 0 where
+  pub end : List ℕ
+  pub first : a ≡ a_left ++ end
+  pub second : b ≡ b_left ++ end
+  pub one_part : list_any is_slash end ≡ false
+
+pub no_end : (a b : List ℕ) → HaveEnd a b a b
+no_end a b = record { end = []; first = sym (append-nil a); second = sym (append-nil b); one_part = refl }
+
+no_slash : (x : ℕ) (end : List ℕ) → (x ≡ 47 → ⊥) → list_any is_slash end ≡ false → list_any is_slash (x ∷ end) ≡ false
+no_slash x end slash rest = rw (ne_eqb x 47 slash, rest) refl
+
+joined : (bs left end : List ℕ) (d : ℕ) → 0 < length left → bs ≡ left ++ end → bs ≡ take (length left - 1) left ++ get_or left (length left - 1) d ∷ end
+joined bs left end d some is =
+    is ∙ ap (λ (zs : List ℕ). zs ++ end) (split_last left d some) ∙ append_assoc (take (length left - 1) left) (get_or left (length left - 1) d ∷ []) end
+
+-- with one byte more
+pub end_more : (a b x y : List ℕ) (d : ℕ) → HaveEnd a b x y → 0 < length x → 0 < length y → (get_or x (length x - 1) d ≡ 47 → ⊥) → get_or x (length x - 1) d ≡ get_or y (length y - 1) d
+    → HaveEnd a b (take (length x - 1) x) (take (length y - 1) y)
+end_more a b x y d h some_x some_y slash same = record {
+  end = get_or x (length x - 1) d ∷ h.end;
+  first = joined a x h.end d some_x h.first;
+  second = joined b y h.end d some_y h.second ∙ ap (λ (z : ℕ). take (length y - 1) y ++ z ∷ h.end) (sym same);
+  one_part = no_slash (get_or x (length x - 1) d) h.end slash h.one_part;
+}
+
+-- the bytes before it differ
+pub end_differs : (a b x y : List ℕ) (d : ℕ) → HaveEnd a b x y → 0 < length x → 0 < length y → (get_or x (length x - 1) d ≡ 47 → ⊥) → (get_or y (length y - 1) d ≡ 47 → ⊥) → (get_or x (length x - 1) d ≡ get_or y (length y - 1) d → ⊥)
+    → (home : Package) → bytes_eq (completed home a) (completed home b) ≡ false
+end_differs a b x y d h some_x some_y slash_x slash_y differ home =
+    ends_apart home a b h.end (get_or x (length x - 1) d) (get_or y (length y - 1) d)
+    (record { front = take (length x - 1) x; is = joined a x h.end d some_x h.first }) (record { front = take (length y - 1) y; is = joined b y h.end d some_y h.second })
+    (no_slash (get_or x (length x - 1) d) h.end slash_x h.one_part) (no_slash (get_or y (length y - 1) d) h.end slash_y h.one_part) differ
