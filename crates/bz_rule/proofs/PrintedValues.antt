@@ -1,6 +1,9 @@
 -- The elements of a list as words, by their parts.
-use Rattle.std.proofs.Common.{◌≡◌, ℕ, ◌<◌, ◌≤◌, List, [], ◌∷◌, ◌++◌, ◌&&◌, Bool, true, false, Option, Some, None, map, option_and_then, is_some, length, take, drop, refl, sym, ap, subst, ◌∙◌, append-nil, append_assoc, if◌then◌else◌}
+use Rattle.std.proofs.Common.{◌≡◌, ℕ, ◌<◌, ◌≤◌, List, [], ◌∷◌, ◌++◌, ◌&&◌, Bool, true, false, Option, Some, None, Result, Ok, Err, OnOk, IfOk, get_or, map, option_and_then, is_some, length, length-append, arith, take, drop, refl, sym, ap, subst, ◌∙◌, append-nil, append_assoc, if◌then◌else◌}
 use Rattle.std.specs.List.{join_with_byte, list_all}
+use Rattle.std.specs.String.Boundary.{IsSplitPoint}
+use Rattle.std.proofs.Math.Seq.{take-append_seam}
+use Rattle.std.proofs.lemmas.List.{get_or_at}
 use Rattle.bz_token.specs.Common.{map_or}
 use Rattle.bz_tree.specs.declared.tree.GroupKind.TheVariants.{RuleCall}
 use Rattle.bz_tree.specs.Tree.{Item, Segment, leaf, group}
@@ -29,7 +32,7 @@ pub record IsPushed (l : ListRest) (after ps : List RowPart) (at : ℕ) (space o
 abbrev pub HasPushed : List RowPart → ℕ → ℕ → List ℕ → List ℕ → List ℕ → Type 0
 HasPushed ps from at space old text = ForRest ps from (λ l after ps. IsPushed l after ps at space old text)
 
-abbrev HasElement : List RowPart → ℕ → ℕ → ℕ → Option (List ℕ) → Type 0
+abbrev pub HasElement : List RowPart → ℕ → ℕ → ℕ → Option (List ℕ) → Type 0
 HasElement ps at token to string = ForRest ps at (λ l after ps. IsElementOf l after ps at token to string)
 
 -- something begins with a bracket after what was there
@@ -38,6 +41,26 @@ HasBegun old text = (more : List ℕ) × (text ≡ old ++ 91 ∷ more)
 
 pub begun_more : (old text new more : List ℕ) → HasBegun old text → new ≡ text ++ more → HasBegun old new
 begun_more old text new more (written, is) pushed = (written ++ more, pushed ∙ ap (λ (t : List ℕ). t ++ more) is ∙ append_assoc old (91 ∷ written) more)
+
+-- what was there before can be had back
+pub splits_there : (old text : List ℕ) (n : ℕ) → n ≡ length old → HasBegun old text → IsSplitPoint text n
+splits_there old text n at (more, is) = (
+  omega (arith, at, ap length is, length-append old (91 ∷ more)),
+  λ some within high.
+      let here : get_or text n 0 ≡ 91 = ap (λ (t : List ℕ). get_or t n 0) is ∙ get_or_at old 91 more 0 n (sym at) in
+      absurd (omega (arith, here, high)),
+)
+
+pub front_back : (old text : List ℕ) (n : ℕ) → n ≡ length old → HasBegun old text → take n text ≡ old
+front_back old text n at (more, is) = (λ i. take (at i) (is i)) ∙ take-append_seam old (91 ∷ more)
+
+pub if_both : {T E : Type 0} (r : Result T E) (P : Type 0) (Q R : T → Type 0) → OnOk r P → IfOk r Q → ((x : T) → P → Q x → R x) → IfOk r R
+if_both (Ok x) P Q R p q both = both x p q
+if_both (Err e) P Q R p q both = tt
+
+pub if_three : {T E : Type 0} (r : Result T E) (P Q R S : T → Type 0) → IfOk r P → IfOk r Q → IfOk r R → ((x : T) → P x → Q x → R x → S x) → IfOk r S
+if_three (Ok x) P Q R S p q is all = all x p q is
+if_three (Err e) P Q R S p q is all = tt
 
 pub pushed_first : (ps : List RowPart) (from : ℕ) (old text : List ℕ) → text ≡ old ++ 91 ∷ [] → HasPushed ps from from [] old text
 pushed_first ps from old text is = λ l after read. record {
@@ -69,31 +92,6 @@ pushed_more ps from at token to literal space old text mid new pushed next befor
       are = m.are ∙ ap (list_all is_string) e.are ∙ ap (λ (b : Bool). b && list_all is_string e.others) is;
       words = next_words m.left.elements e.others e.element text mid new space _ e.are (ap (map_or [] word_form) (sym value)) before written ∙ m.words;
     }
-
--- one element is no string with a value
-pub pushed_none : (ps : List RowPart) (from at token to : ℕ) (string : Option (List ℕ)) (space old text : List ℕ) → HasPushed ps from at space old text → HasElement ps at token to string
-    → is_some (option_and_then value_of string) ≡ false → ForRest ps from (λ l after ps. false ≡ list_all is_string l.elements)
-pushed_none ps from at token to string space old text pushed next none = λ l after read.
-    let m = pushed l after read in
-    let e = next m.left after m.read in
-    let is : is_string e.element ≡ false = ap is_some (element_value e.element.nodes string e.text) ∙ none in
-    sym (m.are ∙ ap (list_all is_string) e.are ∙ ap (λ (b : Bool). b && list_all is_string e.others) is)
-
--- all are
-pub pushed_are : (ps : List RowPart) (from at : ℕ) (space old text : List ℕ) → HasPushed ps from at space old text → ForRest ps at (λ l after ps. l.elements ≡ [])
-    → ForRest ps from (λ l after ps. true ≡ list_all is_string l.elements)
-pushed_are ps from at space old text pushed none = λ l after read.
-    let m = pushed l after read in
-    sym (m.are ∙ ap (list_all is_string) (none m.left after m.read))
-
-pub pushed_words : (ps : List RowPart) (from at : ℕ) (space old text new : List ℕ) → HasPushed ps from at space old text → ForRest ps at (λ l after ps. l.elements ≡ [])
-    → new ≡ text ++ 93 ∷ [] → ForRest ps from (λ l after ps. new ≡ old ++ words_text l.elements)
-pushed_words ps from at space old text new pushed none shut = λ l after read.
-    let m = pushed l after read in
-    let words : List ℕ = join_with_byte 32 (map element_word l.elements) in
-    let here : text ≡ (old ++ 91 ∷ []) ++ words =
-    sym (append-nil text) ∙ ap (λ (ss : List Segment). text ++ spaced_from space (map element_word ss)) (sym (none m.left after m.read)) ∙ m.words in
-    shut ∙ ap (λ (t : List ℕ). t ++ 93 ∷ []) here ∙ ap (λ (t : List ℕ). t ++ 93 ∷ []) (append_assoc old (91 ∷ []) words) ∙ append_assoc old (91 ∷ words) (93 ∷ [])
 
 -- what is one token is no list
 no_list : (nodes : List Item) (text : List ℕ) → Some text ≡ only_text nodes → only_list nodes ≡ None

@@ -1,6 +1,8 @@
 -- Words that are plain, and literals that have them as they stand.
-use Rattle.std.proofs.Common.{◌≡◌, ℕ, ◌==◌, ◌||◌, ◌&&◌, not, nat_le, Bool, true, false, List, [], ◌∷◌, ◌++◌, Option, Some, None, is_some, refl, sym, ap, ◌∙◌, arith, if◌then◌else◌}
+use Rattle.std.proofs.Common.{◌≡◌, ℕ, ◌==◌, ◌||◌, ◌&&◌, ◌+◌, ◌-◌, ◌<◌, ◌≤◌, suc, not, nat_le, Bool, true, false, List, [], ◌∷◌, ◌++◌, Option, Some, None, IfSome, Bor, get_or, length, take, drop, refl, sym, ap, subst, ◌∙◌, arith, length-drop, if◌then◌else◌}
 use Rattle.std.specs.List.{list_any, flat_map}
+use Rattle.std.specs.Str.Pattern.{GetsRange}
+use Rattle.std.proofs.lemmas.List.{length-take, take_all, take_more}
 use Rattle.std.proofs.lemmas.Bool.{false≢true}
 use Rattle.std.proofs.lemmas.Bool.Decides.{nat_tests}
 use Rattle.bz_token.specs.Common.{map_or}
@@ -55,12 +57,46 @@ none_plain (b ∷ bs) h =
     let o = ordinary b both.0 in
     rw (o.quote, o.above) (none_plain bs both.1)
 
--- a literal of one word without special bytes has it as its value
-pub bare_value : (text word : List ℕ) → text ≡ 34 ∷ (word ++ 34 ∷ []) → list_any (is_special 92) word ≡ false → value_of text ≡ Some word
+-- a literal of a word without special bytes has it as its value
+bare_value : (text word : List ℕ) → text ≡ 34 ∷ (word ++ 34 ∷ []) → list_any (is_special 92) word ≡ false → value_of text ≡ Some word
 bare_value text word is none = ap value_of (is ∙ ap (λ (v : List ℕ). 34 ∷ (v ++ 34 ∷ [])) (sym (all_alone word none))) ∙ quoted_value word
 
-pub bare_plain : (b : ℕ) (bs : List ℕ) → list_any (is_special 92) (b ∷ bs) ≡ false → is_plain (b ∷ bs) ≡ true
-bare_plain b bs none = ap not (none_plain (b ∷ bs) none)
+bare_plain : (word : List ℕ) → 0 < length word → list_any (is_special 92) word ≡ false → is_plain word ≡ true
+bare_plain [] some none = absurd (omega (arith, some))
+bare_plain (b ∷ bs) some none = ap not (none_plain (b ∷ bs) none)
+
+-- what stands between the first byte and the last
+abbrev inner : List ℕ → List ℕ
+inner text = take (length text - 1 - 1) (drop 1 text)
+
+framed : (text : List ℕ) → 2 ≤ length text → get_or text 0 0 ≡ 34 → get_or text (length text - 1) 0 ≡ 34 → text ≡ 34 ∷ (inner text ++ 34 ∷ [])
+framed [] long first last = absurd (omega (arith, long))
+framed (q ∷ rest) long first last =
+    let index : length (q ∷ rest) - 1 ≡ suc (length rest - 1) = omega (arith, long) in
+    let size : length rest - 1 ≡ length (q ∷ rest) - 1 - 1 = omega (arith, long) in
+    let end : get_or rest (length rest - 1) 0 ≡ 34 = sym (ap (λ (n : ℕ). get_or (q ∷ rest) n 0) index) ∙ last in
+    let whole : rest ≡ take (length rest - 1) rest ++ get_or rest (length rest - 1) 0 ∷ [] =
+    sym (take_all (length rest - 1 + 1) rest (omega (arith, long))) ∙ take_more rest (length rest - 1) 0 (omega (arith, long)) in
+    (λ i. first i ∷ (whole ∙ (λ j. take (size j) rest ++ end j ∷ [])) i)
+
+-- a slice of the text
+sliced : (P : List ℕ → Type 0) (text : List ℕ) (o : Option (Bor (List ℕ))) → GetsRange text 1 (length text - 1) o → P (inner text) → IfSome o (λ word. P word.now)
+sliced P text None gets p = tt
+sliced P text (Some word) gets p = subst P (sym gets.0) p
+
+pub bare_got : (text bytes : List ℕ) (o : Option (Bor (List ℕ))) → bytes ≡ text → 2 ≤ length bytes → get_or bytes 0 0 ≡ 34 → get_or bytes (length bytes - 1) 0 ≡ 34
+    → list_any (is_special 92) (inner bytes) ≡ false → GetsRange text 1 (length text - 1) o → IfSome o (λ word. value_of text ≡ Some word.now)
+bare_got text bytes o same long first last none gets =
+    let is : value_of text ≡ Some (inner text) =
+    subst (λ (t : List ℕ). value_of t ≡ Some (inner t)) same (bare_value bytes (inner bytes) (framed bytes long first last) none) in
+    sliced (λ word. value_of text ≡ Some word) text o gets is
+
+pub bare_good : (text bytes : List ℕ) (o : Option (Bor (List ℕ))) → bytes ≡ text → 3 ≤ length bytes → list_any (is_special 92) (inner bytes) ≡ false
+    → GetsRange text 1 (length text - 1) o → IfSome o (λ word. is_plain word.now ≡ true)
+bare_good text bytes o same long none gets =
+    let some : 0 < length (inner bytes) = omega (arith, length-take (length bytes - 1 - 1) (drop 1 bytes), length-drop 1 bytes, long) in
+    let is : is_plain (inner text) ≡ true = subst (λ (t : List ℕ). is_plain (inner t) ≡ true) same (bare_plain (inner bytes) some none) in
+    sliced (λ word. is_plain word ≡ true) text o gets is
 
 -- the word of a literal that has this value
 pub plain_word : (text word : List ℕ) → value_of text ≡ Some word → is_plain word ≡ true → word ≡ map_or [] word_form (value_of text)

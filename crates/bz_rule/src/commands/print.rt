@@ -31,7 +31,8 @@ use bz_tree::{GroupKind, Part};
 use std::alloc::Global;
 
 // Most lines are no longer, and are made without making room for more.
-const LONG_LINE: &str = "//a/package/of/many/rules:the_name_of_a_rule cc_library [:another_rule //a/package/of/others:one_of_them \
+const LONG_LINE: &str =
+    "//a/package/of/many/rules:the_name_of_a_rule cc_library [:another_rule //a/package/of/others:one_of_them \
      //a/third/package:a_rule @a_repository//and/its/package:a_rule]";
 
 /// Prints fields of the rule of this head and these parts, or its name and its kind where none is named; the note names
@@ -296,7 +297,7 @@ fn push_words(
     ensures words { IfOk result (λ are. IsTrue are → ForRest (map part_view parts.now) from (λ rest after ps.
         string_bytes text.new ≡ string_bytes text.old ++ spec.words_text rest.elements)) }
     ensures begun { OnOk result ((more : List ℕ)
-        × (string_bytes text.new ≡ string_bytes text.old ++ codes "[" ++ more)) }
+        × (string_bytes text.new ≡ string_bytes text.old ++ (codes "[" ++ more))) }
 {
     push_char(text, '[')?;
     let mut space = "";
