@@ -14,7 +14,7 @@ use bz_label::{Bytes, Package, SortedLabels, Text, same_label, value_of};
 use bz_memory::NoMemory;
 use std::alloc::Global;
 
-/// So many words are compared one by one: to sort them would cost more.
+/// At most so many words are compared one by one: to sort them would cost more.
 pub const FEW: usize = 4;
 
 /// Words, and the labels that they are in a package: many are sorted once, so that an element is looked up.
