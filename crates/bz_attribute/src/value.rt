@@ -1,12 +1,13 @@
-//! The value of an argument as a whole, by its parts: where it ends, and whether it is one list.
+//! The value of an argument as a whole, by its parts: where it ends, and whether it is one string or one list.
 
-ghost use Rattle.std.specs.Prelude.{◌≡◌, ◌<◌, ◌≤◌, ◌∷◌, IfSome, is_some, true, drop, map, length};
+ghost use Rattle.std.specs.Prelude.{◌≡◌, ◌<◌, ◌≤◌, ◌∷◌, option_map, IfSome, is_some, true, drop, map, length};
 ghost use Rattle.bz_tree.specs.Rows.{part_view, segment_end};
 ghost use Rattle.bz_attribute.specs.Elements.{ForValue, OnlyList};
 ghost use Rattle.bz_attribute.specs.Lists.{only_list};
+ghost use Rattle.bz_attribute.specs.Rules.{only_text};
 ghost use Rattle.bz_attribute.specs.private.Parts as spec;
 
-use crate::elements::item_end;
+use crate::elements::{item_end, string_in};
 use crate::place::parts_len;
 use bz_tree::{GroupKind, Part};
 
@@ -51,4 +52,14 @@ pub fn only_list(parts: &[Part<'_>], value: usize) -> Option<usize>
         return None;
     }
     Some(value + 1)
+}
+
+/// The text of a value, where it is one string token.
+#[tactic(auto, using(crate::proofs::ListElements::text_told, crate::proofs::Slices::rest_seen))]
+pub fn only_string<'a>(parts: &[Part<'a>], value: usize) -> Option<&'a str>
+    requires { value ≤ length parts.now }
+    ensures { ForValue (map part_view parts.now) value
+        (λ nodes after ps. option_map (λ text. text.now) result ≡ only_text nodes) }
+{
+    string_in(&parts[value..])
 }

@@ -26,6 +26,8 @@ pub mod PartLaws
 pub mod PlaceEdits
 pub mod Printed
 pub mod PrintedFields
+pub mod PrintedValues
+pub mod PrintedWords
 mod RowEdited
 mod RowStatements
 pub mod RuleClass
