@@ -1,6 +1,4 @@
-use Rattle.std.proofs.Common.{◌≡◌, ◌≤◌, ◌-◌, false, get_or, length, take, drop, arith, rules, sym, ◌∙◌}
-use Rattle.std.specs.List.{list_any}
-use Rattle.bz_rule.specs.private.PrintSteps.{is_special}
+use Rattle.std.proofs.Common.{◌≡◌, ◌≤◌, ◌-◌, false, get_or, length, arith, rules, sym, ◌∙◌}
 use Rattle.bz_rule.proofs.PrintedWords.{bare_got, bare_good}
 use Rattle.bz_rule.proofs.commands.print.bare_word.Goals as goal
 
