@@ -1,18 +1,14 @@
 -- The walk forwards, some parts at a time.
-use Rattle.std.proofs.Common.{◌≡◌, codes, ◌+◌, ◌-◌, ◌≤◌, ◌<◌, ℕ, zero, suc, List, [], ◌∷◌, ◌++◌, append_assoc, None, map, take, drop, get_or, reverse, length, length-append, Bool, true, false, if◌then◌else◌, refl, ap, sym, ◌∙◌, arith}
+use Rattle.std.proofs.Common.{◌≡◌, codes, ◌+◌, ◌-◌, ◌≤◌, ◌<◌, ℕ, zero, suc, List, [], ◌∷◌, ◌++◌, append_assoc, map, take, drop, get_or, reverse, length, length-append, Bool, true, false, if◌then◌else◌, refl, ap, sym, ◌∙◌, arith}
 use Rattle.std.proofs.lemmas.List.{drop-map, drop_more, length-map, take_at, take-append-drop, take_rest}
 use Rattle.bz_token.specs.declared.token.Kind.{Kind}
-use Rattle.bz_tree.specs.declared.tree.GroupKind.{GroupKind}
 use Rattle.bz_tree.specs.Rows.{RowPart, a_token, opening, closing, segment_end, above, beside}
-use Rattle.bz_layout.specs.declared.marks.BracketForm.{BracketForm}
-use Rattle.bz_layout.specs.declared.spacing.Edge.TheVariants.{Start, Operand}
+use Rattle.bz_layout.specs.declared.spacing.Edge.TheVariants.{Start}
 use Rattle.bz_layout.specs.declared.spacing.Gap.TheVariants.{Line}
 use Rattle.bz_layout.specs.declared.walk.RowWriter.{RowWriter}
 use Rattle.bz_layout.specs.Pieces.{gap_bytes}
 use Rattle.bz_layout.specs.Respell.{respell}
-use Rattle.bz_layout.specs.Spacing.{is_group_without_space}
-use Rattle.bz_layout.specs.Walked.{gap_for, opening as opening_text, closing as closing_text}
-use Rattle.bz_layout.specs.private.RowLayout.{Laid, closed_by, due, ended, first_gap, laid, opened, run, step, top, with_token}
+use Rattle.bz_layout.specs.private.RowLayout.{Laid, ended, laid, run, step, with_token}
 
 run_joined : (ps qs : List RowPart) (s : Laid) → run (ps ++ qs) s ≡ run qs (run ps s)
 run_joined [] qs s = refl
@@ -70,22 +66,6 @@ with_comma before gap text = ap (λ (xs : List ℕ). before ++ xs) (sym (append_
 pub item_laid : (w : RowWriter) (before after text : List ℕ) (kind : Kind) → w.left ≡ Start → w.here.mark.broken ≡ true → w.here.mark.comma ≡ true → respell kind text ≡ text
     → after ≡ before ++ (gap_bytes (Line w.level) ++ (text ++ codes ",")) → laid w after ≡ ended (with_token kind text (laid w before))
 item_laid w before after text kind at_start broken comma stays put = rw (put, at_start, broken, comma, stays) (ap (at_item w) (with_comma before (gap_bytes (Line w.level)) text))
-
--- after a bracket, with this text
-abbrev after_bracket : List BracketForm → Laid → List ℕ → Laid
-after_bracket marks s text = record { text = text; marks = marks; outer = s.outer; here = s.here; left = Operand; level = s.level }
-
-bracket_text : (t d g o x c : List ℕ) → (((t ++ (d ++ g)) ++ o) ++ x) ++ c ≡ (((t ++ (d ++ (g ++ o))) ++ x) ++ []) ++ c
-bracket_text t d g o x c = simp append_assoc
-
--- a bracket in place, in which a token stands that is written as it stands
-pub short_laid : (s : Laid) (kind : GroupKind) (of : Kind) (text t1 t2 t3 t4 o c : List ℕ) (closed_up : Bool) (marks : List BracketForm) → (get_or s.marks 0 (top None).mark).broken ≡ false → respell of text ≡ text → marks ≡ drop 1 s.marks
-    → t1 ≡ s.text ++ (due s.here s.left ++ gap_bytes (gap_for (first_gap s.here s.level) s.left closed_up)) → closed_up ≡ is_group_without_space kind → t2 ≡ t1 ++ o → o ≡ opening_text kind → t3 ≡ t2 ++ text → t4 ≡ t3 ++ c → c ≡ closing_text kind
-    → after_bracket marks s t4 ≡ closed_by false (ended (with_token of text (opened kind s)))
-short_laid s kind of text t1 t2 t3 t4 o c closed_up marks in_place stays rest first up second opens third fourth closes =
-    let gap = gap_bytes (gap_for (first_gap s.here s.level) s.left (is_group_without_space kind)) in
-    let all : t4 ≡ (((s.text ++ (due s.here s.left ++ gap)) ++ opening_text kind) ++ text) ++ closing_text kind = cc in
-    rw (all, rest, in_place, stays) (ap (after_bracket (drop 1 s.marks) s) (bracket_text s.text (due s.here s.left) gap (opening_text kind) text (closing_text kind)))
 
 -- one item more
 pub one_up : (all rest more : List RowPart) (kind : Kind) (text : List ℕ) (old mid new : Laid) → rest ≡ a_token kind text ∷ segment_end ∷ more → IsLaidUpTo all rest old mid → new ≡ ended (with_token kind text mid) → IsLaidUpTo all more old new

@@ -204,32 +204,15 @@ impl<'b> RowWriter<'b> {
         Ok(0)
     }
 
-    // A bracket opens. If it is in place and one token stands in it, which stays, all of it is written. Answers how many
-    // parts after it were written.
     #[inline(never)]
-    fn open<T: NewLine>(
-        &mut self,
-        kind: GroupKind,
-        after: &[Part<'_>],
-        out: &mut T,
-    ) -> Result<usize, NoMemory>
+    fn open<T: NewLine>(&mut self, kind: GroupKind, out: &mut T) -> Result<(), NoMemory>
         requires { self.old.level + 1 < 2 ^ 64 }
-        ensures { LaysAlso result (opened kind) (map part_view after.now)
-            self.old (T.bytes out.old) self.new (T.bytes out.new) }
+        ensures { Lays result (opened kind) self.old (T.bytes out.old) self.new (T.bytes out.new) }
     {
         self.put_gap(is_group_without_space(kind), out)?;
         out.put_short(brackets(kind).0)?;
-        let mark = self.marks.pop().unwrap_or(OpenBracket::top(None).mark);
-        if !mark.broken
-            && let [Part::Token(of, text), Part::End, Part::Close(false), ..] = after
-            && stays(*of, text)
-        {
-            out.put(text)?;
-            out.put_short(brackets(kind).1)?;
-            self.left = Edge::Operand;
-            return Ok(3);
-        }
         push(&mut self.outer, self.here)?;
+        let mark = self.marks.pop().unwrap_or(OpenBracket::top(None).mark);
         if mark.broken {
             self.level += 1;
         }
@@ -239,7 +222,7 @@ impl<'b> RowWriter<'b> {
             later: false,
         };
         self.left = Edge::Start;
-        Ok(0)
+        Ok(())
     }
 
     #[inline(never)]
@@ -293,7 +276,7 @@ impl<'b> RowWriter<'b> {
     {
         match *part {
             Part::Token(kind, text) => return self.token(kind, text, after, out),
-            Part::Open(kind) => return self.open(kind, after, out),
+            Part::Open(kind) => self.open(kind, out),
             Part::Close(one_comma) => self.close(one_comma, out),
             Part::End => self.end(out),
             Part::Above(text) if self.here.mark.broken => put(Gap::Line(self.level), text, out),
