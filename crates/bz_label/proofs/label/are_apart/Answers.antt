@@ -1,4 +1,4 @@
-use Rattle.std.proofs.Common.{arith, rules}
+use Rattle.std.proofs.Common.{rules}
 use Rattle.bz_label.proofs.LastBytes.{end_differs, end_more, no_end}
 use Rattle.bz_label.proofs.label.are_apart.Goals as goal
 

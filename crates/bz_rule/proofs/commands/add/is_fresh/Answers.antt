@@ -1,4 +1,4 @@
-use Rattle.std.proofs.Common.{◌≡◌, true, false, ap, sym, ◌∙◌, refl}
+use Rattle.std.proofs.Common.{true, false, sym, ◌∙◌, refl}
 use Rattle.std.specs.List.{list_any}
 use Rattle.bz_attribute.specs.Lists.{same}
 use Rattle.bz_rule.proofs.FreshValues.{fresh_told}

@@ -1,7 +1,6 @@
-use Rattle.std.proofs.Common.{◌≡◌, ℕ, List, Option, ap, map, subst, sym, ◌∙◌}
+use Rattle.std.proofs.Common.{ℕ, Option, ap, map, subst, sym}
 use Rattle.std.specs.List.{list_any}
 use Rattle.bz_tree.specs.Rows.{part_view}
-use Rattle.bz_tree.specs.Tree.{Segment}
 use Rattle.bz_attribute.specs.Elements.{AreLists}
 use Rattle.bz_attribute.specs.Lists.{equals}
 use Rattle.bz_attribute.proofs.ElementSearch.{sought_told}

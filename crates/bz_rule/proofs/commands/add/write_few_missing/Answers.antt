@@ -1,6 +1,6 @@
-use Rattle.std.proofs.Common.{◌≡◌, ℕ, List, [], ◌∷◌, ◌++◌, ◌<◌, get_or, length, map, take, ap, sym, ◌∙◌, arith}
+use Rattle.std.proofs.Common.{◌≡◌, ℕ, List, [], ◌<◌, get_or, length, map, take, sym, ◌∙◌, arith}
 use Rattle.std.proofs.lemmas.List.{get_or_default}
-use Rattle.bz_tree.specs.Rows.{RowPart, part_view, segs_parts}
+use Rattle.bz_tree.specs.Rows.{RowPart, part_view}
 use Rattle.bz_rule.specs.Add.{is_fresh}
 use Rattle.bz_rule.proofs.Adding.{adding_begins, adding_ends, adding_more, adding_none}
 use Rattle.bz_rule.proofs.commands.add.write_few_missing.Goals as goal
