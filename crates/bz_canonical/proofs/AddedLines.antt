@@ -228,6 +228,9 @@ one_present depth home added text old buffer after list l one there = λ args re
 
 -- a new argument
 
+pub front_put : (old a b c attr A : List ℕ) → a ≡ old ++ codes "\n    " → b ≡ a ++ A → A ≡ attr → c ≡ b ++ codes " = [" → c ≡ old ++ front_of [] attr
+front_put old a b c attr A ha hb hA hc = rw (hc, hb, hA, ha) (simp append_assoc)
+
 pub new_list : (new : NewValues) (list : PassedList) (old front after done : List ℕ) (more : Passed) → front ≡ old ++ front_of [] new.added.attr.now → list.start ≡ length front → list.end.now ≡ 44 ∷ [] → list.passed.left ≡ false → list.passed.broken ≡ false
     → ArePut new new.added.values.now list.passed front after more → new.among ≡ None → more.meant ≡ true → EndsList (record list { passed = more }) after done → done ≡ old ++ argument_lines (add new.env.home.now new.added.attr.now new.added.values.now [])
 new_list new list old front after done more front_is start end left broken p none some ends =

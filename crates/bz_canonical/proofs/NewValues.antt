@@ -56,16 +56,19 @@ pub put_none : (new : NewValues) (p : Passed) (old : List ℕ) → ArePut new []
 put_none new p old = record { news = []; news_are = λ lists searched. refl; put = sym (append-nil old); more_is = refl }
 
 -- it is not missing
-pub put_skipped : (new : NewValues) (values : List (List ℕ)) (i : ℕ) (v : List ℕ) (p : Passed) (old buffer : List ℕ) (more : Passed) (missing : Bool) → ArePut new (take i values) p old buffer more → i < length values → v ≡ get_or values i v → missing ≡ false
-    → ((lists : List (List Segment)) → AreSearched new.added.attr.now new.among lists → missing ≡ is_fresh new.env.home.now lists (take i values) v) → ArePut new (take (i + 1) values) p old buffer more
-put_skipped new values i v p old buffer more missing k less is off told = record {
+pub put_kept : (new : NewValues) (values : List (List ℕ)) (i : ℕ) (v : List ℕ) (p : Passed) (old buffer after : List ℕ) (more next : Passed) (missing : Bool) → ArePut new (take i values) p old buffer more → i < length values → v ≡ get_or values i v → missing ≡ false
+    → ((lists : List (List Segment)) → AreSearched new.added.attr.now new.among lists → missing ≡ is_fresh new.env.home.now lists (take i values) v) → after ≡ buffer → next ≡ more → ArePut new (take (i + 1) values) p old after next
+put_kept new values i v p old buffer after more next missing k less is off told after_is next_is = record {
   news = k.news;
   news_are = λ lists searched.
       ap (fresh new.env.home.now lists []) (taken_more values i v less is) ∙ fresh_more new.env.home.now lists [] (take i values) v
       ∙ (λ j. k.news_are lists searched j ++ (if (sym (told lists searched) ∙ off) j then v ∷ [] else [])) ∙ append-nil k.news;
-  put = k.put;
-  more_is = k.more_is;
+  put = after_is ∙ k.put;
+  more_is = next_is ∙ k.more_is;
 }
+
+pub line_put : (old put all literal v : List ℕ) → put ≡ old ++ (10 ∷ (indent 2 ++ (literal ++ 44 ∷ []))) → literal ≡ quoted v → all ≡ put → all ≡ old ++ (10 ∷ (indent 2 ++ (quoted v ++ 44 ∷ [])))
+line_put old put all literal v put_is is all_is = all_is ∙ put_is ∙ ap (λ (t : List ℕ). old ++ (10 ∷ (indent 2 ++ (t ++ 44 ∷ [])))) is
 
 -- it is
 pub put_one : (new : NewValues) (values : List (List ℕ)) (i : ℕ) (v : List ℕ) (p : Passed) (old buffer after : List ℕ) (more next : Passed) (missing : Bool) → ArePut new (take i values) p old buffer more → i < length values → v ≡ get_or values i v → missing ≡ true

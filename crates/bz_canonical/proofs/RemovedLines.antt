@@ -1,5 +1,5 @@
 -- What `remove` of values makes of an argument whose value is one list of strings.
-use Rattle.std.proofs.Common.{◌≡◌, ℕ, List, [], ◌∷◌, ◌++◌, Bool, true, false, ◌||◌, ◌&&◌, not, refl, sym, ap, ◌∙◌, append-nil, subst, bytes_eq}
+use Rattle.std.proofs.Common.{◌≡◌, ◌<◌, ℕ, length, arith, List, [], ◌∷◌, ◌++◌, Bool, true, false, ◌||◌, ◌&&◌, not, refl, sym, ap, ◌∙◌, append-nil, subst, bytes_eq}
 use Rattle.std.proofs.lemmas.Bool.{false≢true}
 use Rattle.std.specs.Prelude.{codes, Option, None, Some, Result, Ok, Err, IfOk, IfSome, if◌then◌else◌}
 use Rattle.bz_token.specs.Common.{is_empty, map_or}
@@ -79,6 +79,10 @@ removes_is home old word notes es suffix some named =
         → removes home (Named old.attr.now) values (list_arg notes word es suffix ∷ []) ≡ map_or false (chooses home (Values values)) (first_named old.attr.now (list_arg notes word es suffix ∷ []))
     by_values [] none = absurd (false≢true (sym none))
     by_values (v ∷ values) some = refl
+
+pub some_of : (values : List (List ℕ)) → 0 < length values → is_empty values ≡ false
+some_of [] some = absurd (omega (arith, some))
+some_of (v ∷ values) some = refl
 
 -- what is made of its lines
 

@@ -70,9 +70,10 @@ pub fn put_new_list(
     ensures { IfOk result (λ put. IsTrue put → written.new.items ≡ written.old.items
         ++ argument_lines (add env.entry.home.now new.entry.attr.now new.entry.values.now [])) }
 {
-    extend_from_slice(written, b"\n    ".as_slice())?;
+    extend_from_slice(written, b"\n    ")?;
     extend_from_slice(written, new.attr.as_bytes())?;
-    extend_from_slice(written, b" = [".as_slice())?;
+    extend_from_slice(written, b" = [")?;
+    let start = written.len();
     let end = b",".as_slice();
     let at = Pending {
         from: end,
@@ -81,7 +82,7 @@ pub fn put_new_list(
     let list = PassedList {
         passed: Passed::none(at),
         end,
-        start: written.len(),
+        start,
     };
     let absent = NewValues {
         env,
@@ -94,7 +95,8 @@ pub fn put_new_list(
     if !passed.meant {
         return Ok(false);
     }
-    end_list(PassedList { passed, ..list }, written)
+    let ended = end_list(PassedList { passed, ..list }, written)?;
+    Ok(ended)
 }
 
 /// The lines of an argument whose value is one list of strings.
@@ -106,14 +108,14 @@ pub(crate) struct ListLines<'t> {
 
 /// Values that are put after the elements of a list.
 #[derive(Clone, Copy)]
-struct NewValues<'c> {
-    env: Env<'c>,
+struct NewValues<'h, 'c, 't> {
+    env: Env<'h>,
     added: AttributeValues<'c>,
     /// The argument, where an element may equal a value. Without it none does.
-    among: Option<ListLines<'c>>,
+    among: Option<ListLines<'t>>,
 }
 
-impl NewValues<'_> {
+impl NewValues<'_, '_, '_> {
     /// Writes the values that are missing, after the elements of the list, and what follows these.
     #[inline(always)]
     fn put_after(self, list: PassedList<'_>, written: &mut Vec<u8>) -> Known<EditedList>

@@ -1,8 +1,9 @@
 //! Elements of a list of strings that go or become another, by the lines of the argument whose value the list is.
 //! `removed.rt` and `replaced.rt` say which. `added.rt` asks whether one equals a value, and puts others after them.
 
-ghost use Rattle.std.specs.Prelude.{◌≡◌, ◌∷◌, ◌++◌, [], ℕ, List, IfOk, IfSome, IsTrue, length, true};
+ghost use Rattle.std.specs.Prelude.{◌≡◌, ◌∷◌, ◌++◌, [], ℕ, List, IfOk, IfSome, IsTrue, length, false, true};
 ghost use Rattle.bz_layout.specs.Pieces.{indent};
+ghost use Rattle.bz_canonical.specs.declared.edited.Becomes.TheVariants.{Kept};
 ghost use Rattle.bz_canonical.specs.private.Edited.{AreElementsEdited, EditsElements, EndsList, IsListEdited, PassesElement, becomes_by, is_meant, none_passed, one_more};
 
 use crate::Known;
@@ -78,8 +79,10 @@ pub(crate) fn put_edited(
         written.truncate(begun);
         return Ok(Some(EditedList::Written));
     }
-    let ended = end_list(list, written)?;
-    Ok(ended.then_some(EditedList::Written))
+    if !end_list(list, written)? {
+        return Ok(None);
+    }
+    Ok(Some(EditedList::Written))
 }
 
 /// Writes what follows the elements that are left, which end the buffer, each on lines of its own. One alone without a
@@ -277,15 +280,12 @@ fn pass_element<'t>(
         (PassesElement passed.entry next.entry meant edit.entry written.old.items written.new.items)) }
 {
     let becomes = becomes_by(edit, meant);
-    match becomes {
-        Becomes::Kept if !next.otherwise => {
-            let at = Pending {
-                from: passed.at.from,
-                rest: next.rest,
-            };
-            return Ok(Some(passed.with_one(at, meant, next.noted)));
-        }
-        _ => {}
+    if is_as_it_stands(becomes, next) {
+        let at = Pending {
+            from: passed.at.from,
+            rest: next.rest,
+        };
+        return Ok(Some(passed.with_one(at, meant, next.noted)));
     }
     if !put_pending(passed.at, written)? {
         return Ok(None);
@@ -295,14 +295,29 @@ fn pass_element<'t>(
         rest: next.rest,
     };
     match becomes {
-        Becomes::Kept => put_element(next, written)?,
-        Becomes::Gone => return Ok(Some(passed.without_one(at))),
+        Becomes::Gone => Ok(Some(passed.without_one(at))),
+        Becomes::Kept => {
+            put_element(next, written)?;
+            Ok(Some(passed.with_one(at, meant, next.noted)))
+        }
         Becomes::Other(new) => {
             let literal = quote(new.alloc, new.value)?;
-            put_element_as(next, literal.as_bytes(), written)?
+            put_element_as(next, literal.as_bytes(), written)?;
+            Ok(Some(passed.with_one(at, meant, next.noted)))
         }
     }
-    Ok(Some(passed.with_one(at, meant, next.noted)))
+}
+
+/// The element stays, and stands as it is written.
+#[inline(always)]
+fn is_as_it_stands(becomes: Becomes<'_>, element: ReadElement<'_>) -> bool
+    ensures kept { IsTrue result → becomes ≡ Kept }
+    ensures stands { IsTrue result → element.entry.otherwise ≡ false }
+{
+    match becomes {
+        Becomes::Kept => !element.otherwise,
+        _ => false,
+    }
 }
 
 /// Writes what is pending. False: more is to be read than the text has.

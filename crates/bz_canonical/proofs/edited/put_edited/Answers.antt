@@ -40,4 +40,4 @@ returns c =
     let put = c.put_pending.new.written.items in
     let l = subst (λ o. IfSome o (IsListEdited depth home edit lines old buffer)) c.in-Some.is c.in_ok-list.ensures in
     list_written depth home edit lines old buffer put c.end_list.new.written.items c.in-Some.list l c.if-not-list.false c.if-not-list-2.false (c.in_ok-put_pending.ensures c.if-not-branch.false)
-    (c.in_ok-ended.ensures c.if-ended.true)
+    (c.in_ok-end_list.ensures c.if-not-branch-2.false)
