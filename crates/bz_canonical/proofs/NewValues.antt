@@ -86,9 +86,6 @@ put_one new values i v p old buffer after more next missing k less is on told af
       more_is = next_is ∙ (λ j. one_more (k.more_is j) (k.more_is j).at true false) ∙ ap (λ at. one_more (more_passed from k.news) at true false) (passed_at from k.news) ∙ sym (passed_one from k.news v);
     }
 
-pub put_all : (new : NewValues) (values : List (List ℕ)) (i : ℕ) (p : Passed) (old buffer : List ℕ) (more : Passed) → take i values ≡ values → ArePut new (take i values) p old buffer more → ArePut new values p old buffer more
-put_all new values i p old buffer more all k = subst (λ vs. ArePut new vs p old buffer more) all k
-
 -- whether one is missing
 
 pub there_in : (home : Package) (attr v : List ℕ) (among : ListLines) (o : Option ListLines) (sought : AttributeValues) (there : Bool) → o ≡ Some among → sought.attr.now ≡ attr → sought.values.now ≡ v ∷ []

@@ -311,7 +311,7 @@ fn pass_element<'t>(
 /// The element stays, and stands as it is written.
 #[inline(always)]
 fn is_as_it_stands(becomes: Becomes<'_>, element: ReadElement<'_>) -> bool
-    ensures kept { IsTrue result → becomes ≡ Kept }
+    ensures kept { IsTrue result → becomes.entry ≡ Kept }
     ensures stands { IsTrue result → element.entry.otherwise ≡ false }
 {
     match becomes {

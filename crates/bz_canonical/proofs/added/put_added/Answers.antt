@@ -1,4 +1,4 @@
-use Rattle.std.proofs.Common.{refl, subst}
+use Rattle.std.proofs.Common.{◌≡◌, length, arith, refl, subst}
 use Rattle.std.specs.Prelude.{IfSome, None, Some}
 use Rattle.bz_canonical.specs.declared.added.ListLines.{ListLines}
 use Rattle.bz_canonical.specs.declared.added.NewValues.{NewValues}
@@ -25,7 +25,8 @@ returns-in-len1 c =
     let old = c.args.written.now.items in
     let buffer = c.put_list_edited.new.written.items in
     let l = subst (λ o. IfSome o (IsListEdited depth home (keeping c.args.new) lines old buffer)) c.in-Some.is c.in_ok-list.ensures in
-    one_present depth home c.args.new lines old buffer buffer c.in-Some.list l c.in-len1.len c.if-not-list.false
+    let one : length c.args.new.values.now ≡ 1 = omega (arith, c.in-len1.len_at_least, c.in-len1.len_below) in
+    one_present depth home c.args.new lines old buffer buffer c.in-Some.list l one c.if-not-list.false
 
 pub returns : goal.returns
 returns c =

@@ -16,17 +16,17 @@ returns-in-Gone c = λ home lines front inside k e told.
     subst (AreEdited home c.args.edit lines front inside c.put_pending.new.written.items) (sym c.without_one.ensures)
     (edited_gone home c.args.edit lines front inside c.args.written.now.items c.put_pending.new.written.items c.args.passed c.args.next c.args.meant k e told gone (c.in_ok-put_pending.ensures c.if-not-branch.false))
 
-pub returns-in-Kept : goal.returns-in-Kept
-returns-in-Kept c = λ home lines front inside k e told.
+pub returns-in_ok-put_element-in-Kept : goal.returns-in_ok-put_element-in-Kept
+returns-in_ok-put_element-in-Kept c = λ home lines front inside k e told.
     let kept : becomes_by c.args.edit c.args.meant ≡ Kept = sym c.becomes_by-becomes.ensures ∙ c.in-Kept.is in
     subst (AreEdited home c.args.edit lines front inside c.put_element.new.written.items) (sym c.with_one-in-Kept.ensures)
     (edited_put home c.args.edit lines front inside c.args.written.now.items c.put_pending.new.written.items c.put_element.new.written.items c.args.passed c.args.next c.args.meant k e told kept
-    (c.in_ok-put_pending.ensures c.if-not-branch.false) c.in_ok-put_element.ensures)
+    (c.in_ok-put_pending.ensures c.if-not-branch.false) c.in_ok-put_element-in-Kept.ensures)
 
-pub returns-in-Other : goal.returns-in-Other
-returns-in-Other c = λ home lines front inside k e told.
+pub returns-in_ok-put_element_as-in-Other : goal.returns-in_ok-put_element_as-in-Other
+returns-in_ok-put_element_as-in-Other c = λ home lines front inside k e told.
     let new = c.in-Other.new in
     let other : becomes_by c.args.edit c.args.meant ≡ Other new = sym c.becomes_by-becomes.ensures ∙ c.in-Other.is in
     subst (AreEdited home c.args.edit lines front inside c.put_element_as.new.written.items) (sym c.with_one-in-Other.ensures)
-    (edited_as home c.args.edit lines front inside c.args.written.now.items c.put_pending.new.written.items c.put_element_as.new.written.items c.as_bytes.result.now c.args.passed c.args.next c.args.meant new k e told other (c.as_bytes.ensures.value ∙ c.in_ok-literal.ensures)
-    (c.in_ok-put_pending.ensures c.if-not-branch.false) c.in_ok-put_element_as.ensures)
+    (edited_as home c.args.edit lines front inside c.args.written.now.items c.put_pending.new.written.items c.put_element_as.new.written.items c.as_bytes.result.now c.args.passed c.args.next c.args.meant new k e told other (c.as_bytes.ensures.value ∙ c.in_ok-literal-in-Other.ensures)
+    (c.in_ok-put_pending.ensures c.if-not-branch.false) c.in_ok-put_element_as-in-Other.ensures)

@@ -11,7 +11,7 @@ pub loop-i-preserved : goal.loop-i-preserved
 loop-i-preserved c =
     let new = c.args.self in
     let v = c.index-values-i.result in
-    let literal : c.in_ok-literal.literal.bytes ≡ quoted v = c.in_ok-literal.ensures ∙ ap quoted c.as_str.ensures in
+    let literal = c.in_ok-literal.ensures ∙ ap quoted c.as_str.ensures in
     let told = c.in-Some.ensures (c.as_str-in-loop-i.ensures.value ∙ literal) in
     elim c.if-missing.branch [
       | then-missing+in_ok-put_line w ↦
