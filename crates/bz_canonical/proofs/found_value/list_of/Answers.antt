@@ -1,6 +1,6 @@
 use Rattle.std.proofs.Common.{true, sym, subst, ◌∙◌}
 use Rattle.bz_canonical.specs.private.Arguments.{IsHeadRead}
-use Rattle.bz_canonical.proofs.added.list_of.Goals as goal
+use Rattle.bz_canonical.proofs.found_value.list_of.Goals as goal
 
 pub returns-clause-head : goal.returns-clause-head
 returns-clause-head c =
