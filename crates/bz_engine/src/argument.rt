@@ -153,7 +153,7 @@ fn execute_remove(
     lines: &str,
     written: &mut Vec<u8>,
 ) -> Result<Option<EditedList>, NoMemory>
-    requires { is_empty old.entry.values.now ≡ false }
+    requires { is_empty old.values.now ≡ false }
     ensures { IfOk result (λ known. IfSome known (EditsList (Remove (Named old.entry.attr.now) old.entry.values.now)
         (read_alone script.entry.max_depth script.entry.home.now lines.now) written.old.items written.new.items)) }
 {

@@ -2,8 +2,8 @@ use Rattle.bz_engine.specs.private.ArgumentEdits.{AddsArgument}
 use Rattle.bz_engine.proofs.ArgumentAnswers.{at_home, puts_list}
 use Rattle.bz_engine.proofs.argument.put_new.Goals as goal
 
-pub returns-in-None : goal.returns-in-None
-returns-in-None c = at_home (λ home. AddsArgument c.args.command.now home c.put_set.new.lines.items) c.args.script.home.now c.put_set.result c.put_set.ensures
+pub returns-in_default : goal.returns-in_default
+returns-in_default c = at_home (λ home. AddsArgument c.args.command.now home c.put_set.new.lines.items) c.args.script.home.now c.put_set.result c.put_set.ensures
 
 pub returns : goal.returns
 returns c =
