@@ -15,8 +15,7 @@ use Rattle.bz_label.proofs.ValueForms.{opened_other}
 use Rattle.bz_label.proofs.Literals.{plain_first, shut, step, units_joined}
 use Rattle.bz_attribute.specs.Lists.{same}
 use Rattle.bz_attribute.specs.private.Apart.{EndApart}
-use Rattle.bz_attribute.proofs.EndsApart.{split_last}
-use Rattle.bz_attribute.proofs.LastBytes.{EndsIn, after, ends_apart}
+use Rattle.bz_label.proofs.LastBytes.{EndsIn, after, ends_apart, split_last}
 
 some_is : {A : Type 0} (x y : A) → Some x ≡ Some y → x ≡ y
 some_is x y e = cc

@@ -23,7 +23,7 @@ abbrev pub done : Option Note → Bool → Done
 done None changed = record { changed = changed; line = None; note = None }
 done (Some note) changed = record { changed = false; line = None; note = Some note }
 
--- an argument has this name
+-- some argument has this name
 abbrev pub has : List ℕ → List Segment → Bool
 has attr args = list_any (is_named attr) args
 
@@ -50,7 +50,7 @@ is_chosen home (Values values) s = list_any (λ word. equals home word s) values
 abbrev pub unchosen : Package → Chosen → List Segment → List Segment
 unchosen home chosen ss = filter (λ s. not (is_chosen home chosen s)) ss
 
--- an element of a list part is chosen
+-- some element of some list part is chosen
 abbrev pub chooses : Package → Chosen → Segment → Bool
 chooses home chosen a = list_any (list_any (is_chosen home chosen)) (parts (value a))
 

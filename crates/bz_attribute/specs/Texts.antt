@@ -1,6 +1,5 @@
 -- How labels and rules are shown (this project's own rule).
 -- Begin with `shown_text`.
--- Of later stops: 5 `kind_text`, `name_in`, `rule_of`.
 use Rattle.std.specs.Prelude.{ℕ, List, [], ◌∷◌, ◌++◌, codes, unwrap_or}
 use Rattle.std.specs.Fmt.{decimal}
 use Rattle.bz_tree.specs.Tree.{Statement}

@@ -24,7 +24,7 @@ impl Edit {
         }
     }
 
-    /// Nothing changes.
+    /// No change, and what is told of that.
     pub fn none(done: Done) -> Edit
         ensures { result ≡ record { done = done; place = record { from = 0; to = 0 } } }
     {

@@ -1,8 +1,7 @@
 -- The bytes of an input that were read and not yet taken, and the chunk that they begin with (this project's
--- own rule). What a chunk is, stop 8 says: a statement with the comment lines above it, comment lines alone,
--- or a blank line.
+-- own rule). What a chunk is, bz_token `Chunks` says: a statement with the comment lines above it, comment
+-- lines alone, or a blank line.
 -- Begin with `IsUndecided` and `IsTooLong`.
--- Of later stops: 8 `EndsBefore`, `chunks`.
 use Rattle.std.specs.Prelude.{◌≡◌, ℕ, ◌+◌, ◌*◌, ◌<◌, ◌≤◌, Bool, false, ◌||◌, IsTrue, List, [], ◌∷◌, ◌++◌, length, take, drop, ⊤}
 use Rattle.std.specs.List.{concat}
 use Rattle.bz_token.specs.Chunks.{chunks}

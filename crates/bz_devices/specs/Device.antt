@@ -2,13 +2,13 @@
 -- rule). One piece stands for one read; an empty one is the end of the input.
 -- Begin with `NoneEnds` and `Rises`.
 use Rattle.std.specs.Prelude.{◌≡◌, ℕ, ◌+◌, ◌<◌, ◌≤◌, ◌-◌, ◌^◌, Bool, false, IsTrue, List, [], ◌∷◌, ◌++◌, Option, None, Some, ⊤}
-use Rattle.bz_token.specs.Common.{is_empty, map_or}
+use Rattle.bz_token.specs.Common.{is_empty, last_of, map_or}
 use Rattle.std.specs.Prelude.{length}
-use Rattle.std.specs.List.{concat, last_or, AllByRecursion}
+use Rattle.std.specs.List.{concat, AllByRecursion}
 
 -- whether the last of these reads gave no byte, and so met the end of the input
 abbrev pub ends : List (List ℕ) → Bool
-ends pieces = map_or false is_empty (last_or None pieces)
+ends pieces = map_or false is_empty (last_of pieces)
 
 -- None of these reads met the end of the input: each gave a byte.
 abbrev pub NoneEnds : List (List ℕ) → Type 0

@@ -1,7 +1,6 @@
 -- The statements of a file: those of its chunks in order, up to the first chunk with a fault (this project's
 -- own rule).
 -- Begin with `IsFile`.
--- Of later stops: 8 `chunks`, `column_at`, `line_at`.
 use Rattle.bz_memory.specs.NoMemory.{no_memory}
 use Rattle.std.specs.Prelude.{◌≡◌, ◌≢◌, ℕ, List, [], ◌∷◌, take, Option, None, Some, Result, Ok, Err}
 use Rattle.std.specs.Str.{IsUtf8, IsValidUpTo}
@@ -19,7 +18,8 @@ abbrev pub not_utf8 : ℕ → ℕ → List ℕ → SyntaxFault
 not_utf8 line n bytes = NotUtf8 (line_at line (take n bytes)) (column_at (take n bytes))
 
 -- The answer for a chunk, which is read by itself from the number of its first line: a statement, nothing
--- where it is blank, or its first fault.
+-- where it is blank, or its first fault. That memory was refused is no answer, and the fault of no file: of the
+-- two faults that say it the last line leaves one out, and `IsFirstFault` (stop 3) never names the other.
 abbrev pub IsAnswerOf : ℕ → ℕ → List ℕ → Result (Option Statement) SyntaxFault → Type 0
 IsAnswerOf max_depth line chunk (Ok (Some s)) = IsUtf8 chunk × IsStatementIn line max_depth chunk s
 IsAnswerOf max_depth line chunk (Ok None) = IsUtf8 chunk × IsBlank line max_depth chunk

@@ -1,7 +1,6 @@
 -- What targets mark and what commands do to the statement in a slot, and what is told of it: the language of
 -- passes over BUILD files (buildozer README; what is told is this project's own rule).
 -- Begin with `meaning`.
--- Of later stops: 5 `Command`, `after`, `note_of`, `printed_line`.
 use Rattle.std.specs.Prelude.{ℕ, Bool, false, not, List, [], ◌++◌, Option, map, option_to_list}
 use Rattle.std.specs.List.{flat_map}
 use Rattle.bz_token.specs.Common.{is_empty, map_or}

@@ -1,6 +1,5 @@
 -- The reads of a run: each was needed (this project's own rule).
 -- Begin with `AreReads`.
--- Of later stops: 4 `Package`, `Statement`; 7 `AreStatementsOf`; 8 `chunks`.
 use Rattle.std.specs.Prelude.{◌≡◌, ℕ, ◌+◌, ◌≤◌, false, IsTrue, List, [], ◌∷◌, ◌++◌, length, None, ⊤}
 use Rattle.std.specs.List.{concat}
 use Rattle.bz_token.specs.Chunks.{chunks}
@@ -34,16 +33,18 @@ pub record IsOneNeeded (run : Run) (max_statement : ℕ) (pieces : List (List �
   pub undecided : IsUndecided max_statement left
 
 -- Each of these reads, made after those that gave `before`, was needed and gave at most 8,192 bytes, the most
--- that one read gives. With the bytes that were left of the reads before it, these are at most 8,192 more
--- than the longest chunk may have.
+-- that one read gives. Its bytes (`piece`) and those that were left of the reads before it (`left`) are
+-- together at most 8,192 more than the longest chunk may have. (`AreNeeded` of bz_devices, in no stop, says of
+-- the reads for one chunk that they were needed.)
 abbrev pub AreNeededAfter : Run → ℕ → List (List ℕ) → List (List ℕ) → Type 0
 AreNeededAfter run most before [] = ⊤
 AreNeededAfter run most before (piece ∷ pieces) = (left : List ℕ) × IsOneNeeded run most before left
     × (length piece ≤ 8192) × (length (left ++ piece) ≤ most + 8192)
     × AreNeededAfter run most (before ++ piece ∷ []) pieces
 
--- The reads of a run gave these pieces: they are no more than it may make, at most one more than there are
--- bytes, and each was needed and no larger than it may be.
+-- The reads of a run gave these pieces: they are no more than it may make, and each was needed and no larger
+-- than it may be. From this it follows that they are at most one more than there are bytes: all before the
+-- last gave a byte (`going`).
 pub record AreReads (home : Package) (passes : Script) (options : Options)
     (pieces : List (List ℕ)) : Type 0 where
   pub within : length pieces ≤ options.max_reads

@@ -1,8 +1,6 @@
 -- What a run over a file gives: the passes one after another on the whole list of its statements, and the
 -- result laid out (buildozer README; what is told, and when a run ends, is this project's own rule).
 -- Begin with `IsOutcome`.
--- Of later stops: 4 `Package`, `Statement`, `Target`, `fault_text`, `meaning`; 5 `Command`, `is_print`; 6
--- `gap_text`, `layout_text`, `lines_between`; 7 `AreStatementsOf`, `IsFile`; 8 `chunks`.
 use Rattle.std.specs.Prelude.{◌≡◌, ◌↔◌, ℕ, Bool, true, false, not, if◌then◌else◌, List, [], ◌∷◌, ◌++◌, map, Option, None, Some, take, filter_map}
 use Rattle.std.specs.List.{list_all, flat_map}
 use Rattle.bz_token.specs.Common.{is_empty}
@@ -28,7 +26,8 @@ abbrev pub Script : Type 0
 Script = List (Pass Target Command)
 
 -- A run is what is to be done to a file: the script in the package `home`, whether it goes on after a failure
--- (buildozer's flag `-k`), and how deep brackets may stand in each other.
+-- (buildozer's flag `-k`), and how deep brackets may stand in each other. Of the options these two alone
+-- count for the outcome. The other two limit what is read: they may stop a run (`Stops`), and change no outcome.
 pub record Run : Type 0 where
   pub home : Package
   pub passes : Script

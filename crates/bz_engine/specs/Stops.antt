@@ -1,6 +1,5 @@
 -- Where a run stops, and what it has done then (this project's own rule).
 -- Begin with `HasEndedAt` and `HasStopped`.
--- Of later stops: 4 `Statement`; 7 `IsAnswerOf`; 8 `chunks`, `line_at`.
 use Rattle.std.specs.Prelude.{◌≡◌, ◌≢◌, ◌⊎◌, ℕ, ◌≤◌, true, false, List, [], ◌∷◌, ◌++◌, length, Some, Ok, Err, ⊤}
 use Rattle.std.specs.List.{concat, AllByRecursion}
 use Rattle.bz_token.specs.Chunks.{chunks}
@@ -26,7 +25,9 @@ pub record ComesNext (max_statement : ℕ) (pieces cs : List (List ℕ)) (chunk 
 
 -- What ends a run when the chunks `cs` are done and a chunk may have `most` bytes, for each end (`End`, in
 -- `src/report.rt`): the file has no other chunk (`Whole`), or the next one has this fault, or an execution
--- fails on the statement of the next one.
+-- fails on the statement of the next one. (That failures end this run at all, `RunEnds` of `Outcome` says.)
+-- `RunEnds` names the same ends by the statements of one file. This adds which chunk ends the run, that it is
+-- no longer than it may be, and that all this holds whatever stands after what was read.
 abbrev pub EndsAfter : Run → ℕ → List (List ℕ) → List (List ℕ) → End → Type 0
 EndsAfter run most pieces cs Whole = ForEveryFile pieces (λ file. chunks file ≡ cs)
 EndsAfter run most pieces cs (Syntax fault) = (chunk : List ℕ) × ComesNext most pieces cs chunk

@@ -17,7 +17,8 @@ ghost use Rattle.bz_engine.specs.Language.{meaning, changes};
 /// Some command tells that it changed something, as `apply` of bz_rule does, exactly where some command of the script,
 /// when it ran, left something else in its slot than it found: so a run tells of changes.
 pub fn changed_is_a_difference()
-    ensures { (home : Package) (ps : List (Pass Target Command)) (slots : List (Slot Statement)) → AreCommands ps
+    ensures { (home : Package) (ps : List (Pass Target Command)) (slots : List (Slot Statement))
+        → AreCommands ps
         → (some_execution (meaning home) (changes home) ps slots ≡ true) ↔ Changes (meaning home) ps slots }
 {}
 
@@ -31,7 +32,8 @@ pub fn one_list_of_statements()
 
 /// A file has one outcome: one text is written for it, and one thing is told.
 pub fn one_outcome()
-    ensures some { (run : Run) (file : List ℕ) → (text : List ℕ) × (told : Told) × IsOutcome run file text told }
+    ensures some { (run : Run) (file : List ℕ) → (text : List ℕ) × (told : Told)
+        × IsOutcome run file text told }
     ensures only { (run : Run) (file text text2 : List ℕ) (told told2 : Told) → IsOutcome run file text told
         → IsOutcome run file text2 told2 → (text ≡ text2) × (told ≡ told2) }
 {}
@@ -39,5 +41,6 @@ pub fn one_outcome()
 /// A new session has done no chunk: nothing was read, and nothing was written. So `Session::step`, whose `More` leads
 /// from what is done to one chunk more, says what any number of steps has done.
 pub fn new_session_has_done_nothing()
-    ensures { (home : Package) (passes : Script) (options : Options) → HasDone (at_start home passes options) [] [] [] }
+    ensures { (home : Package) (passes : Script) (options : Options)
+        → HasDone (at_start home passes options) [] [] [] }
 {}

@@ -21,7 +21,8 @@ const MOST: usize = 8;
 /// No pass of the script may mark the statement of this head.
 pub(crate) fn is_passed_by(script: ScriptRun<'_>, head: Option<Head<'_>>) -> bool
     ensures { IsTrue result → (s : Statement) → HasHead head.entry s
-        → IsPassedBy (meaning script.entry.home.now) (changes script.entry.home.now) (fails_on script.entry.home.now)
+        → IsPassedBy (meaning script.entry.home.now) (changes script.entry.home.now)
+        (fails_on script.entry.home.now)
         script.entry.passes.now (Some s) }
 {
     if !script.passes.ask_for_names() {

@@ -2,7 +2,7 @@
 -- Begin with `completed`.
 use Rattle.std.specs.Prelude.{◌≡◌, ℕ, nat_eq, List, [], ◌∷◌, ◌++◌, Bool, ◌&&◌, not, if◌then◌else◌, None, Some, codes, bytes_eq}
 use Rattle.std.specs.List.{list_any, starts_with}
-use Rattle.bz_label.specs.Labels.{Package, is_colon, parts_of, last_of}
+use Rattle.bz_label.specs.Labels.{Package, is_colon, parts_of, last_part}
 
 -- a name alone, without a colon: a target of the package
 abbrev pub is_local : List ℕ → Bool
@@ -18,7 +18,7 @@ in_package (Some path) text = 47 ∷ 47 ∷ (path ++ text)
 abbrev pub with_name : List ℕ → List ℕ
 with_name text =
     if starts_with nat_eq text (codes "//") && not (list_any is_colon text)
-    then (let name = last_of (parts_of text) in if bytes_eq name [] then text else text ++ 58 ∷ name)
+    then (let name = last_part (parts_of text) in if bytes_eq name [] then text else text ++ 58 ∷ name)
     else text
 
 -- a label in full: a name alone gets its colon, a target of the package the path before it, and a path its

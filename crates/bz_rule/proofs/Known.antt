@@ -75,9 +75,8 @@ knows_more home lists values i word old new h at known more is = record {
 
 -- it tells whether the value at i is fresh
 pub knows_fresh : (home : Package) (lists : List (List Segment)) (values : List (List ℕ)) (i : ℕ) (word : List ℕ) (set : LabelSet) → i < length values → word ≡ get_or values i [] → Knows home lists values i set
-    → not (has set word) ≡ is_fresh home lists (take i values) (get_or values i [])
+    → not (has set word) ≡ is_fresh home lists (take i values) word
 knows_fresh home lists values i word set h at known =
     let itself : same home word (get_or values i []) ≡ true = ap (same home word) (sym at) ∙ nat_list_eq_equiv.refl (completed home word) in
     let among : list_any (same home word) values ≡ true = list_any_at (same home word) values i [] h itself in
     ap not (known.all word ∙ ap (λ (b : Bool). b || list_any (same home word) (take i values)) (among_chosen home values lists word among))
-    ∙ ap (is_fresh home lists (take i values)) at

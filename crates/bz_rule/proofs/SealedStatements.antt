@@ -4,8 +4,7 @@ use Rattle.std.specs.Prelude.{bytes_eq, option_and_then, unwrap_or}
 use Rattle.std.specs.List.{flat_map, join_with_byte, list_all}
 use Rattle.std.proofs.lemmas.Bool.{and_parts}
 use Rattle.std.proofs.lemmas.List.Folds.{list_all-append}
-use Rattle.bz_token.specs.Common.{map_or}
-use Rattle.bz_token.specs.Lexical.{is_one_of}
+use Rattle.bz_token.specs.Common.{map_or, is_one_of}
 use Rattle.bz_tree.specs.Tree.{Item, Segment, Statement}
 use Rattle.bz_label.specs.Labels.{All, Kind as OfKind, Line, Name, Package, Pkg, Target}
 use Rattle.bz_rule.specs.declared.commands.field.Field.{Field}

@@ -17,7 +17,7 @@ abbrev pub add : Package → List ℕ → List (List ℕ) → List Segment → L
 add home attr values args = if is_some (no_list_note attr (first_named attr args)) then args
     else put_in attr (arrivals home (elements_of (first_named attr args)) (map string values)) args
 
--- The same value by value, and whether it changes something.
+-- What `add` does value by value, and whether it changes something.
 
 -- a value that no element of these list parts equals, and that no earlier value is the same as
 abbrev pub is_fresh : Package → List (List Segment) → List (List ℕ) → List ℕ → Bool

@@ -2,14 +2,14 @@
 -- project's own rule).
 -- Begin with `set`, `set_if_absent` and `with_kind`.
 use Rattle.std.specs.Prelude.{ℕ, ◌==◌, List, [], ◌∷◌, ◌++◌, Bool, true, false, ◌&&◌, ◌||◌, not, if◌then◌else◌, Option, Some, None, is_some, map, codes, bytes_eq}
-use Rattle.std.specs.List.{join_by, list_any, list_all, slice_split}
+use Rattle.std.specs.List.{join_by, list_all, slice_split}
 use Rattle.bz_token.specs.declared.token.Kind.TheVariants.{Identifier, Integer, Operator}
 use Rattle.bz_tree.specs.Tree.{Item, leaf, Segment, Statement}
 use Rattle.bz_attribute.specs.Rules.{Rule, rule_of, kind_text, is_named, is_text, first_named, value, string_value}
 use Rattle.bz_attribute.specs.Lists.{only_list, with_value}
 use Rattle.bz_attribute.specs.Effects.{has, edit_first, argument, list_item, string, string_item, nodes_of, done}
 use Rattle.bz_attribute.specs.declared.done.Done.{Done}
-use Rattle.bz_token.specs.Common.{map_or}
+use Rattle.bz_token.specs.Common.{is_one_of, map_or}
 use Rattle.std.specs.Char.{is_ascii_digit}
 use Rattle.std.specs.Cmp.Lexicographic.{pointwise}
 
@@ -19,7 +19,7 @@ list_attributes = slice_split (λ b. b == 32) (codes "srcs hdrs textual_hdrs dep
 
 -- an attribute is one of these
 abbrev pub is_list_attribute : List ℕ → Bool
-is_list_attribute attr = list_any (bytes_eq attr) list_attributes
+is_list_attribute attr = is_one_of list_attributes attr
 
 -- `0`, or digits that do not begin with 0
 abbrev pub is_number : List ℕ → Bool
@@ -28,7 +28,7 @@ is_number (b ∷ bs) = bytes_eq (b ∷ bs) (codes "0") || list_all is_ascii_digi
 
 -- `True`, `False` or `None`
 abbrev pub is_constant : List ℕ → Bool
-is_constant word = list_any (bytes_eq word) (codes "True" ∷ codes "False" ∷ codes "None" ∷ [])
+is_constant word = is_one_of (codes "True" ∷ codes "False" ∷ codes "None" ∷ []) word
 
 -- what an attribute is set to
 pub data New : Type 0 where

@@ -47,7 +47,7 @@ IsEdited run cs statements chunk old new before after Done = IsDone run cs state
 IsEdited run cs statements chunk old new before after (Faulty fault) = IsFaulty run.max_depth chunk fault old new before after
 IsEdited run cs statements chunk old new before after (Failed message) = IsFailed run chunk message old new before after
 
--- the same, whatever chunks were done before
+-- a chunk is edited so, whatever chunks were done before
 abbrev pub EditsChunk : Run → List ℕ → Progress → Progress → List ℕ → List ℕ → Edited → Type 0
 EditsChunk run chunk old new before after edited =
     (cs : List (List ℕ)) (statements : List Statement) → IsKeptOf run cs statements old → IsEdited run cs statements chunk old new before after edited

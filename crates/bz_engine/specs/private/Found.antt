@@ -75,7 +75,7 @@ pub record IsFound (depth : ℕ) (found : Found) (s : Statement) : Type 0 where
   pub has : IfSome (option_map between found.place) (HasPlace depth found.attr.now s)
   pub spanned : IsTrue found.chunk.noted → HasNotedSpans depth found s
 
--- the same, where the chunk begins on this line
+-- the chunk is that of a statement, where it begins on this line
 pub record IsFoundOn (depth line : ℕ) (found : Found) (s : Statement) : Type 0 where
   pub is : IsFound depth found s
   pub read : IsStatementIn line depth found.chunk.chunk.now s

@@ -1,6 +1,7 @@
 -- For private clauses alone: what is printed of the rule of a head and parts.
-use Rattle.std.specs.Prelude.{◌≡◌, ℕ, List, ◌++◌, Option}
-use Rattle.bz_tree.specs.Tree.{Statement}
+use Rattle.std.specs.Prelude.{◌≡◌, ℕ, ◌==◌, nat_le, Bool, false, true, ◌||◌, List, ◌++◌, Option, Some}
+use Rattle.bz_tree.specs.declared.tree.GroupKind.TheVariants.{RuleCall}
+use Rattle.bz_tree.specs.Tree.{Item, Statement}
 use Rattle.bz_tree.specs.Rows.{RowPart}
 use Rattle.bz_label.specs.Labels.{Package}
 use Rattle.bz_rule.specs.declared.commands.field.Field.{Field}
@@ -9,7 +10,8 @@ use Rattle.bz_attribute.specs.declared.done.Note.{Note}
 use Rattle.bz_attribute.specs.Heads.{IsHeadOf}
 use Rattle.bz_attribute.specs.RowPlaces.{IsRuleRow}
 use Rattle.bz_attribute.specs.Rules.{Rule}
-use Rattle.bz_rule.specs.Print.{line_of, missing}
+use Rattle.bz_layout.specs.Layout.{flat_text}
+use Rattle.bz_rule.specs.Print.{line_of, missing, value_text}
 
 -- a rule of this head and these parts
 pub record IsRuleOf (known : Head) (ps : List RowPart) (s : Statement) (r : Rule) : Type 0 where
@@ -20,3 +22,12 @@ pub record IsRuleOf (known : Head) (ps : List RowPart) (s : Statement) (r : Rule
 pub record HasPrinted (home : Package) (fields : List Field) (head : Head) (ps : List RowPart) (old new : List ℕ) (told : Option Note) : Type 0 where
   pub line : (s : Statement) (r : Rule) → IsRuleOf head ps s r → new ≡ old ++ line_of home s r fields
   pub note : (s : Statement) (r : Rule) → IsRuleOf head ps s r → told ≡ missing home s r fields
+
+-- A value of strings comes after what was there. Of any other one nothing does, and it is to be its text on one line.
+abbrev pub HasStrings : Bool → List ℕ → List ℕ → List Item → Type 0
+HasStrings true old new nodes = new ≡ old ++ value_text nodes
+HasStrings false old new nodes = (new ≡ old) × (value_text nodes ≡ flat_text (Some RuleCall) nodes)
+
+-- a quote, this byte, or a space or a byte below it
+abbrev pub is_special : ℕ → ℕ → Bool
+is_special other b = (b == 34 || b == other) || nat_le b 32

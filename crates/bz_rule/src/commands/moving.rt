@@ -71,8 +71,10 @@ fn move_chosen<'a>(
     requires within { (lists.from ≤ length parts.now) × (IfSome lists.to (λ to. to ≤ length parts.now)) }
     requires found { AreFound change.old.now change.new.now lists (map part_view parts.now) }
     ensures { IfOk result (IsRowEdit
-        (steps.moved_where env.entry.home.now change.entry.old.now change.entry.new.now change.entry.moved.now)
-        (λ args. done Nothing (spec.moves env.entry.home.now change.entry.old.now change.entry.moved.now args))
+        (steps.moved_where env.entry.home.now
+        change.entry.old.now change.entry.new.now change.entry.moved.now)
+        (λ args. done Nothing
+        (spec.moves env.entry.home.now change.entry.old.now change.entry.moved.now args))
         (map part_view parts.now) (map part_view written.new.items)) }
 {
     match change.moved {
@@ -100,7 +102,8 @@ fn move_meant<'a>(
     requires found { AreFound change.old.now change.new.now lists (map part_view parts.now) }
     ensures { IfOk result (λ e. (moved : Choice) → literal_of edit.entry ≡ Nothing
         → is_meant (means edit.entry) ≡ is_chosen edit.entry.env.home.now moved
-        → IsRowEdit (steps.moved_where edit.entry.env.home.now change.entry.old.now change.entry.new.now moved)
+        → IsRowEdit (steps.moved_where edit.entry.env.home.now
+        change.entry.old.now change.entry.new.now moved)
         (λ args. done Nothing (spec.moves edit.entry.env.home.now change.entry.old.now moved args))
         (map part_view parts.now) (map part_view written.new.items) e) }
 {

@@ -71,7 +71,8 @@ pub fn set_if_absent<'a>(
     written: &mut Parts<'a>,
 ) -> Result<Edit, NoMemory>
     ensures { IfOk result (IsRowEdit (spec.set_if_absent attr.now words.now)
-        (λ args. done None (not (has attr.now args))) (map part_view parts.now) (map part_view written.new.items)) }
+        (λ args. done None (not (has attr.now args))) (map part_view parts.now)
+        (map part_view written.new.items)) }
 {
     if find_argument(parts, attr).is_some() {
         return Ok(Edit::none(Done::quiet(false)));

@@ -23,7 +23,8 @@ pub fn set_kind<'a>(
 ) -> Result<Edit, NoMemory>
     ensures within { IfOk result (λ e. IsWithin e.place (map part_view parts.now)) }
     ensures parts { IfOk result (λ e. e.done.changed ≡ true
-        → (s : Statement) (r : Rule) → IsRuleRow s r (map part_view parts.now) → kind_text r.kind ≡ old_kind.now
+        → (s : Statement) (r : Rule) → IsRuleRow s r (map part_view parts.now)
+        → kind_text r.kind ≡ old_kind.now
         → replaced_at e.place (map part_view new.new.items) (map part_view parts.now)
         ≡ parts_of (spec.with_kind kind.now s)) }
     ensures done { IfOk result (λ e. (s : Statement) (r : Rule) → IsRuleRow s r (map part_view parts.now)
