@@ -1,12 +1,12 @@
 -- What marks a rule that is not read, by its name, its kind and its lines.
-use Rattle.std.proofs.Common.{◌≡◌, ◌≢◌, ℕ, ◌+◌, ◌<◌, ◌≤◌, ◌&&◌, ◌==◌, Bool, List, ◌++◌, true, false, Bor, length, get_or, refl, sym, ap, subst, ◌∙◌, arith, tests, append-nil}
+use Rattle.std.proofs.Common.{◌≡◌, ◌≢◌, ℕ, ◌+◌, ◌<◌, ◌≤◌, ◌&&◌, ◌==◌, Bool, List, ◌++◌, true, false, Bor, length, get_or, refl, sym, ap, subst, ◌∙◌, arith, tests, append-nil, ltb, ltb-true, ltb-false}
 use Rattle.std.proofs.lemmas.Bool.{false≢true}
 use Rattle.std.proofs.lemmas.List.Sums.{sum_by-append}
 use Rattle.std.specs.List.{concat}
-use Rattle.std.specs.Prelude.{Option, None, Some, IsTrue, bytes_eq, codes, count_by, if◌then◌else◌, nat_le, nat_lt, option_map}
+use Rattle.std.specs.Prelude.{Option, None, Some, IsTrue, bytes_eq, codes, count_by, if◌then◌else◌, is_some, nat_le, option_map}
 use Rattle.bz_token.specs.Common.{map_or}
 use Rattle.bz_tree.specs.Tree.{Statement}
-use Rattle.bz_label.specs.Labels.{Target, Name, Pkg, All, Kind, Line}
+use Rattle.bz_label.specs.Labels.{Package, Target, Name, Pkg, All, Kind, Line}
 use Rattle.bz_attribute.specs.Marks.{marks, marks_rule}
 use Rattle.bz_attribute.specs.Rules.{Rule, is_text, name_in, rule_of}
 use Rattle.bz_canonical.specs.Canonical.{HasName, rule_name}
@@ -21,9 +21,11 @@ use Rattle.bz_engine.specs.Language.{meaning, changes, fails_on}
 use Rattle.bz_engine.specs.Outcome.{Script}
 use Rattle.bz_engine.specs.declared.canonical.Found.{Found}
 use Rattle.bz_engine.specs.declared.marking.KnownRule.{KnownRule}
-use Rattle.bz_engine.specs.private.Found.{HasItsSpans, HasNotedSpans, IsFoundOn, IsOfKind, unplaced}
+use Rattle.bz_engine.specs.declared.rule_passes.OnePass.{OnePass}
+use Rattle.bz_engine.specs.private.Found.{HasItsSpans, HasNotedSpans, IsForOne, IsFoundOn, IsOfKind, one_pass, unplaced}
 use Rattle.bz_engine.specs.private.Marked.{IsKnownRule, may_mark_rule}
 use Rattle.bz_engine.proofs.CanonicalChunks.{bytes_same, same_bytes}
+use Rattle.bz_engine.proofs.OnlyPass.{for_one}
 use Rattle.bz_engine.proofs.SealedRows.{read_rule, the_rule}
 
 -- the kind that the spans of the arguments show is that of the statement
@@ -47,11 +49,11 @@ begins_in line depth names s chunk written spans has =
     (omega (arith, start), omega (arith, start, all))
 
 -- what is known of the rule of a chunk
-pub known : (known : KnownRule) (depth line : ℕ) (passes : Script) (found : Found) (s : Statement) → IsTrue found.chunk.noted → HasItsSpans depth passes found
+pub rule_known : (known : KnownRule) (depth line : ℕ) (passes : Script) (found : Found) (s : Statement) → IsTrue found.chunk.noted → HasItsSpans depth passes found
     → option_map (λ name. name.now) found.chunk.name ≡ Some known.name.now
     → ((depth : ℕ) (names : List (List ℕ)) (r : NamedRule) (stands : List (List ℕ)) (written : List ℕ) → IsSpannedIn depth names r stands found.chunk.chunk.now written found.spans.now → known.kind.now ≡ r.kind)
     → known.first ≡ line → known.last ≡ line + count_by (λ b. b == 10) found.chunk.chunk.now → IsFoundOn depth line (unplaced found) s → IsKnownRule known s
-known known depth line passes found s noted its name kind first last on =
+rule_known known depth line passes found s noted its name kind first last on =
     let has = its.spans noted line s on.read in
     let of_kind = spanned_kind known.kind.now depth found s (on.is.spanned noted) kind in
     let lines = begins_in line depth _ s found.chunk.chunk.now found.chunk.written.now found.spans.now has in
@@ -84,18 +86,18 @@ known_marked known s (Kind kind) is may other = ap (map_or false (marks_rule (Ki
 known_marked known s (Line line) is may other = absurd (other line refl)
 
 -- no pass that may mark it
-pub known_passed : (home : _) (passes : Script) (known : KnownRule) (s : Statement) → IsKnownRule known s → IsFirstFrom (λ (pass : Pass Target Command). may_mark_rule known pass.target) passes 0 None
+pub known_passed : (home : Package) (passes : Script) (known : KnownRule) (s : Statement) → IsKnownRule known s → IsFirstFrom (λ (pass : Pass Target Command). may_mark_rule known pass.target) passes 0 None
     → IsPassedBy (meaning home) (changes home) (fails_on home) passes (Some s)
 known_passed home passes known s is none = unmarked_passed (meaning home) (changes home) (fails_on home) passes (Some s) (λ i d within. known_unmarked known s (get_or passes i d).target is (none i d (omega arith) within))
 
 -- all but one pass do not mark it
 pub others_unmarked : (passes : Script) (known : KnownRule) (s : Statement) (at : ℕ) → IsKnownRule known s → IsFirstFrom (λ (pass : Pass Target Command). may_mark_rule known pass.target) passes 0 (Some at)
     → IsFirstFrom (λ (pass : Pass Target Command). may_mark_rule known pass.target) passes (at + 1) None → (i : ℕ) (d : Pass Target Command) → i < length passes → i ≢ at → marks (get_or passes i d).target s ≡ false
-others_unmarked passes known s at is first none i d within other = by (nat_lt i at) refl
+others_unmarked passes known s at is first none i d within other = by (ltb i at) refl
   where
-    by : (b : Bool) → nat_lt i at ≡ b → marks (get_or passes i d).target s ≡ false
-    by true less = known_unmarked known s (get_or passes i d).target is (first.3 i d (omega arith) (omega (arith, tests, less)))
-    by false more = known_unmarked known s (get_or passes i d).target is (none i d (omega (arith, tests, more, other)) within)
+    by : (b : Bool) → ltb i at ≡ b → marks (get_or passes i d).target s ≡ false
+    by true less = known_unmarked known s (get_or passes i d).target is (first.3 i d (omega arith) (ltb-true i at less))
+    by false more = known_unmarked known s (get_or passes i d).target is (none i d (let from = ltb-false i at more in omega (arith, from, other)) within)
 
 bytes_other : (xs ys : List ℕ) → bytes_eq xs ys ≡ false → bytes_eq ys xs ≡ false
 bytes_other xs ys other = by (bytes_eq ys xs) refl
@@ -111,3 +113,22 @@ key_unmarked known Pkg other = absurd (false≢true (sym other))
 key_unmarked known All other = absurd (false≢true (sym other))
 key_unmarked known (Kind kind) other = absurd (false≢true (sym other))
 key_unmarked known (Line line) other = absurd (false≢true (sym other))
+
+-- the one pass that may mark it, and asks for no line
+pub for_rule : (home : Package) (passes : Script) (known : KnownRule) (only : OnePass) (Is : Statement → Type 0) (at : ℕ) → ((s : Statement) → Is s → IsKnownRule known s)
+    → IsFirstFrom (λ (pass : Pass Target Command). may_mark_rule known pass.target) passes 0 (Some at) → IsFirstFrom (λ (pass : Pass Target Command). may_mark_rule known pass.target) passes (at + 1) None
+    → only.at ≡ at → one_pass only ≡ get_or passes only.at (one_pass only) → (only.at + 1 < length passes → only.last ≡ false) → ((line : ℕ) → only.target.now ≡ Line line → ⊥)
+    → IsForOne home passes only Is
+for_rule home passes known only Is at knows first none at_is is last other =
+    let here : one_pass only ≡ get_or passes at (one_pass only) = is ∙ ap (λ n. get_or passes n (one_pass only)) at_is in
+    let may : may_mark_rule known only.target.now ≡ true = ap (λ (p : Pass Target Command). may_mark_rule known p.target) here ∙ first.2 (one_pass only) in
+    for_one home passes only Is (subst (λ n. n < length passes) (sym at_is) first.1) is last (λ s on. known_marked known s only.target.now (knows s on) may other)
+    (λ s on i d within apart. others_unmarked passes known s at (knows s on) first none i d within (λ same. apart (same ∙ sym at_is)))
+
+-- no later pass may
+pub none_found : {X : Type 0} (test : X → Bool) (xs : List X) (from : ℕ) (found : Option ℕ) → is_some found ≡ false → IsFirstFrom test xs from found → IsFirstFrom test xs from None
+none_found test xs from None none first = first
+none_found test xs from (Some at) none first = absurd cc
+
+pub none_at_end : {X : Type 0} (test : X → Bool) (xs : List X) (from : ℕ) → length xs ≤ from → IsFirstFrom test xs from None
+none_at_end test xs from end i d later within = absurd (omega (arith, end, later, within))

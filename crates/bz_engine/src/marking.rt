@@ -118,7 +118,7 @@ fn by_kind<'p>(script: ScriptRun<'p>, found: &Found<'_>, line: u64, lines: u64) 
     let Some(at) = next_for(passes, rule, 0) else {
         return Marking::Unmarked;
     };
-    if next_for(passes, rule, at + 1).is_some() {
+    if passes.as_slice().len() > at + 1 && next_for(passes, rule, at + 1).is_some() {
         return Marking::Unknown;
     }
     match script.passes.one_at(at) {
