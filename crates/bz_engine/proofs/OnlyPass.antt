@@ -1,7 +1,7 @@
 -- A statement that one pass of the script alone marks, whose one command it is.
 use Rattle.std.proofs.Common.{◌≡◌, ◌≢◌, ℕ, ◌+◌, ◌<◌, length, get_or, Bool, true, false, ◌||◌, List, [], ◌∷◌, ◌++◌, refl, sym, ◌∙◌, ap, subst, append-nil, arith}
 use Rattle.std.proofs.lemmas.Bool.{false≢true}
-use Rattle.std.specs.Prelude.{Option, None, Some, if◌then◌else◌, bytes_eq, codes, map, option_map, option_to_list}
+use Rattle.std.specs.Prelude.{OnOk, Result, Ok, Err, Option, None, Some, if◌then◌else◌, bytes_eq, codes, map, option_map, option_to_list}
 use Rattle.bz_token.specs.Common.{map_or}
 use Rattle.bz_tree.specs.declared.tree.Class.{Class}
 use Rattle.bz_tree.specs.declared.tree.Class.TheVariants.{Rule as RuleClass}
@@ -252,3 +252,8 @@ pub is_done : (run : Run) (found : Found) (old new : Progress) (before after : L
     → Fits new.kept run.passes → new.line ≡ old.line → ((s : Statement) → IsFound run.max_depth found s → IsLaidOut run s old new before after)
     → EditsFound run found old new before after true
 is_done run found old new before after fits line laid = is_done_on run found old new before after fits line (λ s is. laid s is.is)
+
+-- what two clauses of a call say, where its `Result` is returned as it is
+pub on_ok_both : {T E P Q R : Type 0} (r : Result T E) → (P → Q → R) → OnOk r P → OnOk r Q → OnOk r R
+on_ok_both (Ok x) both p q = both p q
+on_ok_both (Err e) both p q = tt

@@ -1,6 +1,6 @@
 //! Rules that the one command of a script leaves as they are, by what is known of their text.
 
-ghost use Rattle.std.specs.Prelude.{ℕ, IfOk, IfSome, IsTrue, Some, false};
+ghost use Rattle.std.specs.Prelude.{◌≡◌, ℕ, IfOk, IfSome, IsTrue, None, Some, false};
 ghost use Rattle.bz_tree.specs.Tree.{Statement};
 ghost use Rattle.bz_canonical.specs.Canonical.{HasName};
 ghost use Rattle.bz_engine.specs.private.Found.{HasItsSpans, IsFound, IsFoundOn, IsPlaceIn, IsWithout, LeavesRule, Makes, told_line};
@@ -64,20 +64,15 @@ pub(crate) fn printed_by_text<'t, 'f: 't>(
     }
 }
 
-/// That the rule stays as it is, where it has no argument that the command looks at. None: it has one, or it is to be
-/// seen.
-pub(crate) fn left_by_text<'t>(
-    home: &Package,
-    command: &Command,
-    found: &Found<'_>,
-) -> Option<Unchanged<'t>>
-    ensures { IfSome result (LeavesRule command.now home.now found.now) }
+/// The command leaves the rule as it is, and tells nothing: the rule has no argument that it looks at.
+pub(crate) fn is_left_by_text(home: &Package, command: &Command, found: &Found<'_>) -> bool
+    ensures { IsTrue result → (unchanged : Unchanged) → unchanged.line ≡ None
+        → LeavesRule command.now home.now found.now unchanged }
 {
-    let attr = looked_at(command)?;
-    if !is_without(found, attr) {
-        return None;
+    match looked_at(command) {
+        Some(attr) => is_without(found, attr),
+        None => false,
     }
-    Some(Unchanged { line: None })
 }
 
 /// What is printed of a rule of this name, where that is all that is asked.

@@ -7,7 +7,7 @@ ghost use Rattle.bz_engine.specs.private.Edits.{run_of};
 ghost use Rattle.bz_engine.specs.private.Found.{HasItsSpans, IsForOne, IsFoundOn, IsPlaced, LeavesRule, TellsRule, unplaced};
 ghost use Rattle.bz_engine.specs.private.NextChunks.{EditsFound};
 
-use crate::answer::{Unchanged, asked_attribute, left_by_text, place_of, printed_by_text};
+use crate::answer::{Unchanged, asked_attribute, is_left_by_text, place_of, printed_by_text};
 use crate::canonical::Found;
 use crate::edit::ScriptRun;
 use crate::failure::{Message, failure_by_text, missing_by_text};
@@ -125,7 +125,8 @@ fn copy_placed(
         text.old.items text.new.items) }
 {
     let MarkedRule { only, found } = marked;
-    if let Some(unchanged) = left_by_text(script.home, only.command, found) {
+    if is_left_by_text(script.home, only.command, found) {
+        let unchanged = Unchanged { line: None };
         put_unchanged(script, marked, unchanged, progress, text)?;
         return Ok(true);
     }

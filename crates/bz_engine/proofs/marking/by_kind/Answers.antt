@@ -26,8 +26,8 @@ returns-in-Some-one_at c =
     let at = c.in-Some-next_for.at in
     let test = λ (pass : Pass Target Command). may_mark_rule rule pass.target in
     let none : IsFirstFrom test indexed (at + 1) None = elim c.else-as_slice-at.branch [
-      else-as_slice-at-via-then-as_slice-at+else-is_some w ↦ none_found test indexed (at + 1) _ (sym w.is_some.ensures ∙ w.if-is_some.false) w.next_for-then-as_slice-at.ensures
-    | else-as_slice-at-via-else-as_slice-at w ↦ none_at_end test indexed (at + 1) (omega (arith, w.if-as_slice-at.false, ap length c.as_slice.ensures))
+      | else-as_slice-at-via-then-as_slice-at+else-is_some w ↦ none_found test indexed (at + 1) _ (sym w.is_some.ensures ∙ w.if-is_some.false) w.next_for-then-as_slice-at.ensures
+      | else-as_slice-at-via-else-as_slice-at w ↦ none_at_end test indexed (at + 1) (omega (arith, w.if-as_slice-at.false, ap length c.as_slice.ensures))
     ] in
     for_rule c.args.script.home.now passes rule c.in-Some-one_at.only _ at (λ s on. c.in-Some.ensures c.args.script.max_depth passes c.requires.spans s on)
     (subst (λ (ps : Script). IsFirstFrom test ps 0 (Some at)) c.indexed-passes.ensures c.in-Some-next_for.ensures) (subst (λ (ps : Script). IsFirstFrom test ps (at + 1) None) c.indexed-passes.ensures none)
