@@ -2,8 +2,8 @@
 //! end comes first, so what decides on it is known where it opens.
 
 ghost use Rattle.std.specs.Prelude.{◌≡◌, IfOk, OnOk, map, reverse};
-ghost use Rattle.bz_tree.specs.Rows.{part_view};
-ghost use Rattle.bz_layout.specs.private.RowLayout.{closed, opened_back, back, scan, scanned};
+ghost use Rattle.bz_tree.specs.Rows.{closing, part_view, segment_end};
+ghost use Rattle.bz_layout.specs.private.RowLayout.{closed, mark_of, opened_back, back, scan, scanned};
 
 use crate::broken::breaks_by_count;
 use crate::walk::FIRST_DEPTH;
@@ -57,22 +57,48 @@ impl Contents {
     }
 }
 
+// How a bracket of this kind with these contents is written.
+#[inline(always)]
+fn form_of(kind: GroupKind, inside: Contents) -> BracketForm
+    ensures { result ≡ mark_of kind inside }
+{
+    let segs = usize::from(inside.segs);
+    BracketForm {
+        broken: inside.comments || breaks_by_count(kind, segs) || segs >= 2 && inside.holds,
+        comma: has_commas(kind, inside.one_comma, segs),
+    }
+}
+
 impl<'b> Marks<'b> {
     // A bracket opens, with all that stands in it after it.
     fn open(&mut self, kind: GroupKind) -> Result<(), NoMemory>
         ensures { OnOk result (scanned self.new ≡ opened_back kind (scanned self.old)) }
     {
-        let segs = usize::from(self.here.segs);
-        let mark = BracketForm {
-            broken: self.here.comments
-                || breaks_by_count(kind, segs)
-                || segs >= 2 && self.here.holds,
-            comma: has_commas(kind, self.here.one_comma, segs),
-        };
+        let mark = form_of(kind, self.here);
         let holds = mark.broken || self.here.holds;
         push(&mut self.marks, mark)?;
         self.here = self.outer.pop().unwrap_or(Contents::closed(false));
         self.here.holds = holds || self.here.holds;
+        Ok(())
+    }
+
+    // A bracket opens in which one token stands.
+    #[inline(always)]
+    fn open_one(&mut self, kind: GroupKind, one_comma: bool) -> Result<(), NoMemory>
+        ensures { OnOk result (scanned self.new
+            ≡ opened_back kind (back segment_end (back (closing one_comma) (scanned self.old)))) }
+    {
+        let mark = form_of(
+            kind,
+            Contents {
+                one_comma,
+                comments: false,
+                holds: false,
+                segs: 1,
+            },
+        );
+        push(&mut self.marks, mark)?;
+        self.here.holds = mark.broken || self.here.holds;
         Ok(())
     }
 
@@ -107,12 +133,17 @@ pub(crate) fn marks_of<'b>(
         here: Contents::closed(false),
         outer: with_capacity(bump, FIRST_DEPTH)?,
     };
-    let mut i = parts.len();
-    while i > 0 {
-        i -= 1;
-        // Most parts are tokens, which leave all as it is.
-        if !matches!(parts[i], Part::Token(_, _)) {
-            walk.step(&parts[i])?;
+    let mut rest = parts;
+    while let [before @ .., part] = rest {
+        rest = before;
+        // Many brackets have one token, and are passed at once.
+        if let Part::Close(one_comma) = *part
+            && let [front @ .., Part::Open(kind), Part::Token(_, _), Part::End] = before
+        {
+            walk.open_one(*kind, one_comma)?;
+            rest = front;
+        } else {
+            walk.step(part)?;
         }
     }
     let Marks { marks, .. } = walk;

@@ -23,12 +23,12 @@ use crate::row::{Part, Parts, Row};
 use crate::tree::GroupKind;
 use crate::tree::block::is_block_word;
 use crate::tree::kinds::{
-    Mark, Shape, group_kind, is_for_at, is_one, operator_mark, same_shape, shape_of,
+    Mark, Preceding, Shape, group_kind, is_for_at, is_one, operator_mark, same_shape, shape_of,
 };
 use crate::tree::owners::ends_on;
 use crate::tree::span::{counted_end_of, first_seen, first_token, newlines, start_of};
 use bumpalo::Bump;
-use bz_memory::{NoMemory, push, with_room_within};
+use bz_memory::{NoMemory, push, reserve, with_room_within};
 use bz_token::{Kind, Token};
 use std::cmp::min;
 
@@ -149,7 +149,8 @@ impl<'a> RowWalk<'a> {
         }
         let shown = shown_kind(self.top.read.naming, kind);
         push(&mut self.parts, Part::Open(shown))?;
-        push(&mut self.outer, self.top)?;
+        reserve(&mut self.outer, 1)?;
+        self.outer.push_reserved(self.top);
         self.top = Spot::new(Some(kind));
         Ok(true)
     }
@@ -189,13 +190,13 @@ impl<'a> RowWalk<'a> {
         }
         let one_comma = self.top.is_one_comma(kind);
         push(&mut self.parts, Part::Close(one_comma))?;
-        let Some(below) = self.outer.pop() else {
-            return Ok(false);
-        };
-        if below.is_ended() {
+        if self.outer.is_empty() {
             return Ok(false);
         }
-        self.top = below;
+        self.top = self.outer.take_last();
+        if self.top.is_ended() {
+            return Ok(false);
+        }
         self.top.here = Here::Node(line, "");
         self.top.read.add_group(kind);
         Ok(true)
@@ -231,6 +232,24 @@ impl<'a> RowWalk<'a> {
             Kind::Comment => self.add_comment(token),
             _ => self.push_other(token),
         }
+    }
+
+    // A list with one element, a string or a number, which closes on this line.
+    #[inline(always)]
+    fn add_short_list(&mut self, token: &Token<'a>, line: u64) -> Result<(), NoMemory> {
+        push(&mut self.parts, Part::Open(GroupKind::List))?;
+        push(&mut self.parts, Part::Token(token.kind, token.text))?;
+        push(&mut self.parts, Part::End)?;
+        push(&mut self.parts, Part::Close(false))?;
+        self.top.here = Here::Node(line, "");
+        self.top.read.add_group(GroupKind::List);
+        Ok(())
+    }
+
+    // Whether `[` opens a list here.
+    #[inline(always)]
+    fn may_list(&self) -> bool {
+        !matches!(self.top.read.at, Preceding::Operand) && !self.top.is_ended()
     }
 
     // One more element of a list or a tuple, a string or a number, and the comma on this line.
@@ -274,6 +293,22 @@ impl<'a> RowWalk<'a> {
                     && is_comma(comma)
                 {
                     self.add_element(token, comma.line)?;
+                    rest = after;
+                }
+            } else if let [open, value, close, after @ ..] = rest
+                && is_operator_byte(open, b'[')
+                && is_value(value.kind)
+                && is_operator_byte(close, b']')
+                && self.may_list()
+            {
+                self.add_short_list(value, close.line)?;
+                rest = after;
+                if let [comma, after @ ..] = rest
+                    && is_comma(comma)
+                {
+                    if !self.add_comma(comma)? {
+                        return Ok(false);
+                    }
                     rest = after;
                 }
             }
@@ -324,6 +359,14 @@ fn is_list(kind: Option<GroupKind>) -> bool
     ensures { result ≡ is_list kind }
 {
     matches!(kind, Some(GroupKind::Paren | GroupKind::List))
+}
+
+#[inline(always)]
+fn is_operator_byte(token: &Token<'_>, byte: u8) -> bool {
+    matches!(
+        (token.kind, token.text.as_bytes()),
+        (Kind::Operator, [one]) if *one == byte
+    )
 }
 
 // Told at a glance, ahead of the other operators.
