@@ -30,7 +30,7 @@ pub(crate) fn parts_len(parts: &[Part<'_>], at_end: bool) -> usize
             Part::Close(_) if depth == 0 => return count,
             Part::Open(_) => depth += 1,
             Part::Close(_) => depth -= 1,
-            _ => {}
+            Part::Token(_, _) | Part::End | Part::Above(_) | Part::Beside(_) => {}
         }
         count += 1;
     }

@@ -33,8 +33,7 @@ pub(crate) fn written_len(at: Pending<'_>, written: &Vec<u8>) -> Option<usize>
         → IsPending text written.now.items all at.entry.from.now at.entry.rest.now → len ≡ length all) }
 {
     let pending = at.from.len().checked_sub(at.rest.len())?;
-    let len = written.len().checked_add(pending)?;
-    Some(len)
+    written.len().checked_add(pending)
 }
 
 /// The name of an argument, and what follows its equals sign.
@@ -65,10 +64,7 @@ fn after_argument_nodes(value: &[u8], depth: u8) -> Option<Value<'_>>
 {
     // Most values are lists of strings.
     match after_string_list(value, depth) {
-        Some(rest) => {
-            let read = after_first(Value { rest, holds: true }, 1, depth)?;
-            Some(read)
-        }
+        Some(rest) => after_first(Value { rest, holds: true }, 1, depth),
         None => after_nodes(value, 1, depth),
     }
 }

@@ -20,6 +20,19 @@ pub(crate) struct BareStatement<'t> {
     pub(crate) kind: Option<&'t [u8]>,
 }
 
+/// A statement of this class without a name, and what follows it.
+#[inline(always)]
+fn nameless(class: Class, rest: &[u8]) -> BareStatement<'_>
+    ensures { result ≡ record { class = class; name = None; kind = None; rest = rest } }
+{
+    BareStatement {
+        class,
+        name: None,
+        kind: None,
+        rest,
+    }
+}
+
 /// The load, rule or assignment here.
 #[tactic(auto, using(crate::proofs::BareStatements::bare_fronts))]
 #[inline(always)]
@@ -34,12 +47,7 @@ pub(crate) fn read_bare_statement(text: &[u8], max_depth: u8) -> Option<BareStat
     }
     if let Some(inside) = after_word(text, Word::Load) {
         let rest = after_load(inside)?;
-        return Some(BareStatement {
-            class: Class::Load,
-            name: None,
-            kind: None,
-            rest,
-        });
+        return Some(nameless(Class::Load, rest));
     }
     let end = after_identifier(text)?;
     if let Some(member) = after(end, b'.') {
@@ -55,12 +63,7 @@ pub(crate) fn read_bare_statement(text: &[u8], max_depth: u8) -> Option<BareStat
     match end {
         [b' ', ..] => {
             let rest = after_assignment(end, max_depth)?;
-            Some(BareStatement {
-                class: Class::Assign,
-                name: None,
-                kind: None,
-                rest,
-            })
+            Some(nameless(Class::Assign, rest))
         }
         _ => {
             let read = read_rule_call(end, max_depth)?;
@@ -81,9 +84,6 @@ fn kind_before<'t>(text: &'t [u8], call: &[u8], name: Option<&[u8]>) -> Option<&
 {
     match name {
         Some(_) => None,
-        None => {
-            let kind = before(text, call.len())?;
-            Some(kind)
-        }
+        None => before(text, call.len()),
     }
 }

@@ -55,8 +55,7 @@ fn after_next_comment(text: &[u8], level: u8) -> Option<&[u8]>
         × IsTokenFront Comment inner rest.now) }
 {
     let inner = after_line(text, level)?;
-    let rest = after_comment(inner)?;
-    Some(rest)
+    after_comment(inner)
 }
 
 /// What follows the comments above a statement.
@@ -83,8 +82,7 @@ fn after_comment_line(text: &[u8]) -> Option<&[u8]>
     match text {
         [b'#', ..] => {
             let end = after_comment(text)?;
-            let rest = after(end, b'\n')?;
-            Some(rest)
+            after(end, b'\n')
         }
         _ => None,
     }

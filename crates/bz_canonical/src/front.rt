@@ -108,8 +108,7 @@ fn after_any_string(text: &[u8]) -> Option<&[u8]>
     ensures { IfSome result (λ rest. IsTokenFront String text.now rest.now) }
 {
     let _inside = after(text, b'"')?;
-    let rest = after_some(text, any_string_len(text))?;
-    Some(rest)
+    after_some(text, any_string_len(text))
 }
 
 // Few strings come here: the others are passed without this code in their way.
@@ -126,8 +125,7 @@ fn any_string_len(text: &[u8]) -> usize
 pub(crate) fn after_identifier(text: &[u8]) -> Option<&[u8]>
     ensures { IfSome result (λ rest. IsTokenFront Identifier text.now rest.now) }
 {
-    let rest = after_some(text, identifier_len(text))?;
-    Some(rest)
+    after_some(text, identifier_len(text))
 }
 
 /// What follows the integer here.
@@ -135,8 +133,7 @@ pub(crate) fn after_identifier(text: &[u8]) -> Option<&[u8]>
 pub(crate) fn after_number(text: &[u8]) -> Option<&[u8]>
     ensures { IfSome result (λ rest. IsTokenFront Integer text.now rest.now) }
 {
-    let rest = after_some(text, integer_len(text))?;
-    Some(rest)
+    after_some(text, integer_len(text))
 }
 
 /// What follows the comment here.
@@ -144,8 +141,7 @@ pub(crate) fn after_number(text: &[u8]) -> Option<&[u8]>
 pub(crate) fn after_comment(text: &[u8]) -> Option<&[u8]>
     ensures { IfSome result (λ rest. IsTokenFront Comment text.now rest.now) }
 {
-    let rest = after_some(text, any_comment_len(text))?;
-    Some(rest)
+    after_some(text, any_comment_len(text))
 }
 
 // Few lines have a comment: the others are passed without this code in their way.
@@ -169,8 +165,7 @@ pub(crate) fn after_simple_string(text: &[u8]) -> Option<&[u8]>
     ensures { IfSome result (λ rest. (inner : List ℕ) × IsQuotedFront text.now inner rest.now) }
 {
     let inside = after(text, b'"')?;
-    let rest = after(after_simple(inside), b'"')?;
-    Some(rest)
+    after(after_simple(inside), b'"')
 }
 
 /// The string in double quotes here, whose value stands as it is.
@@ -263,8 +258,7 @@ pub(crate) fn after_line(text: &[u8], level: u8) -> Option<&[u8]>
     ensures { IfSome result (λ rest. text.now ≡ 10 ∷ (indent level ++ rest.now)) }
 {
     let rest = after(text, b'\n')?;
-    let inner = after_indent(rest, level)?;
-    Some(inner)
+    after_indent(rest, level)
 }
 
 /// Whether these are the same bytes: seldom they are as many.

@@ -32,7 +32,12 @@ fn breaks(kind: GroupKind, one: bool, two: bool, holds: bool) -> bool
     match kind {
         GroupKind::List | GroupKind::RuleCall => two,
         GroupKind::Dict => one,
-        _ => two && holds,
+        GroupKind::Call
+        | GroupKind::Load
+        | GroupKind::Paren
+        | GroupKind::Index
+        | GroupKind::ListComp
+        | GroupKind::DictComp => two && holds,
     }
 }
 

@@ -255,8 +255,7 @@ pub(crate) fn after_last(text: &[u8], bracket: u8) -> Option<&[u8]>
     ensures { IfSome result (λ rest. text.now ≡ 10 ∷ (indent 1 ++ bracket ∷ rest.now)) }
 {
     let end = after_line(text, 1)?;
-    let rest = after(end, bracket)?;
-    Some(rest)
+    after(end, bracket)
 }
 
 /// What follows a comma and the comment beside it.
@@ -266,8 +265,7 @@ pub(crate) fn after_comma(text: &[u8]) -> Option<AfterComments<'_>>
         × IsBesideFront comma side.rest.now side.some) }
 {
     let comma = after(text, b',')?;
-    let side = after_suffix(comma)?;
-    Some(side)
+    after_suffix(comma)
 }
 
 /// Nothing follows a comma here and the comment beside it.

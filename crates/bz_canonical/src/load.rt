@@ -19,8 +19,7 @@ pub(crate) fn after_load(inside: &[u8]) -> Option<&[u8]>
         };
         rest = after_loaded_name(next)?;
     }
-    let end = after(rest, b')')?;
-    Some(end)
+    after(rest, b')')
 }
 
 /// What follows the string here, or the name, equals sign and string.

@@ -109,6 +109,5 @@ fn after_rule(text: &[u8]) -> Option<&[u8]>
     let end = after_line(text, 0)?;
     let close = after(end, b')')?;
     let side = after_suffix(close)?;
-    let rest = after(side.rest, b'\n')?;
-    Some(rest)
+    after(side.rest, b'\n')
 }

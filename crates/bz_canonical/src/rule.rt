@@ -75,8 +75,7 @@ fn after_only_name(text: &[u8]) -> Option<&[u8]>
     ensures { IfSome result (λ value. text.now ≡ 40 ∷ (codes "name" ++ (codes " = " ++ value.now))) }
 {
     let inside = after(text, b'(')?;
-    let value = after_word(inside, Word::Name)?;
-    Some(value)
+    after_word(inside, Word::Name)
 }
 
 /// What follows the call of a rule here, no argument of which is `name`.

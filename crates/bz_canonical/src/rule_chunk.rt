@@ -143,6 +143,5 @@ fn written_of<'t>(chunk: &'t str, buffer: &'t [u8], as_is: bool) -> Option<&'t s
     if as_is {
         return Some(chunk);
     }
-    let written = check_utf8(buffer).ok()?;
-    Some(written)
+    check_utf8(buffer).ok()
 }

@@ -23,6 +23,15 @@ use bz_tree::{Class, GroupKind, Part, Parts, Row};
 // Room for the parts that most rules have beside those that are asked for.
 const ROOM: usize = 40;
 
+// A newline and the indent of an argument.
+const BEFORE_ARGUMENT: usize = 5;
+
+// A comma or a bracket, and two spaces.
+const BEFORE_BESIDE: usize = 3;
+
+// A newline, the indent of an argument, and `name = `.
+const BEFORE_NAME: usize = 12;
+
 /// A rule, by what is written of it and where its arguments stand there.
 #[derive(Clone, Copy)]
 pub struct SpannedRule<'a> {
@@ -80,7 +89,7 @@ fn put_sealed<'a>(lines: &'a str, comma: usize, parts: &mut Parts<'a>) -> Result
         → comma ≡ length (10 ∷ (indent 1 ++ inner)) → map part_view parts.new.items
         ≡ map part_view parts.old.items ++ (a_token Kept inner ∷ segment_end ∷ beside_part suffix)) }
 {
-    let Some(inner) = between(lines, 5, comma) else {
+    let Some(inner) = between(lines, BEFORE_ARGUMENT, comma) else {
         return Ok(false);
     };
     let Some((_, side)) = lines.split_at_checked(comma) else {
@@ -100,7 +109,7 @@ fn put_beside<'a>(side: &'a str, parts: &mut Parts<'a>) -> Result<bool, NoMemory
     if side.len() <= 1 {
         return Ok(true);
     }
-    let Some(comment) = between(side, 3, side.len()) else {
+    let Some(comment) = between(side, BEFORE_BESIDE, side.len()) else {
         return Ok(false);
     };
     push(parts, Part::Beside(comment))?;
@@ -170,7 +179,7 @@ fn put_name<'a>(line: &'a str, parts: &mut Parts<'a>) -> Result<bool, NoMemory>
     let Some(len) = line.len().checked_sub(1) else {
         return Ok(false);
     };
-    let Some(literal) = between(line, 12, len) else {
+    let Some(literal) = between(line, BEFORE_NAME, len) else {
         return Ok(false);
     };
     push(parts, Part::Token(Kind::Identifier, "name"))?;
@@ -325,7 +334,7 @@ fn put_above<'a>(lines: &'a str, parts: &mut Parts<'a>) -> Result<bool, NoMemory
     if lines.is_empty() {
         return Ok(true);
     }
-    let Some((_, comment)) = lines.split_at_checked(5) else {
+    let Some((_, comment)) = lines.split_at_checked(BEFORE_ARGUMENT) else {
         return Ok(false);
     };
     push(parts, Part::Above(comment))?;

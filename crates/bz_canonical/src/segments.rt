@@ -210,6 +210,5 @@ pub(crate) fn after_keyword(text: &[u8]) -> Option<&[u8]>
     ensures { IfSome result (λ rest. IsTokenFront Identifier text.now (codes " = " ++ rest.now)) }
 {
     let equals = after_identifier(text)?;
-    let rest = after_word(equals, Word::Equals)?;
-    Some(rest)
+    after_word(equals, Word::Equals)
 }

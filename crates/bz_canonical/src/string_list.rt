@@ -46,6 +46,5 @@ fn after_string_line(text: &[u8]) -> Option<AfterComments<'_>>
 {
     let inner = after_element_line(text)?;
     let string = after_simple_string(inner)?;
-    let side = after_comma(string)?;
-    Some(side)
+    after_comma(string)
 }

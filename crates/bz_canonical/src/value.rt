@@ -182,8 +182,7 @@ fn after_short_list(text: &[u8], depth: u8) -> Option<&[u8]>
         Some(rest) => Some(rest),
         None => {
             let string = after_simple_string(inside)?;
-            let rest = after(string, b']')?;
-            Some(rest)
+            after(string, b']')
         }
     }
 }

@@ -11,7 +11,7 @@ impl Keyed for Target {
     fn asked(&self) -> Option<&str> {
         match self.marked() {
             Marked::Name(name) => Some(name),
-            _ => None,
+            Marked::Pkg | Marked::All | Marked::Kind(_) | Marked::Line(_) => None,
         }
     }
 }

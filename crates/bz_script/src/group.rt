@@ -34,8 +34,7 @@ pub fn read_group(alloc: Global, line: u64, words: &[&str]) -> Result<Script, Us
     if labels.is_empty() {
         return Err(UsageFault::NoTarget { line });
     }
-    let script = passes_for(alloc, words, commands, labels)?;
-    Ok(script)
+    passes_for(alloc, words, commands, labels)
 }
 
 /// What the words of a group are, each kind in order.

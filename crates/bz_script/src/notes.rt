@@ -199,10 +199,7 @@ pub fn may_need_notes(bytes: &[u8], script: &[(Package, Pass<Target, Command>)])
 }
 
 fn is_all(target: &Target) -> bool {
-    match target.marked() {
-        Marked::Name(name) => name == "all",
-        _ => false,
-    }
+    matches!(target.marked(), Marked::Name("all"))
 }
 
 /// Whether a flag names a command file, and whether that is the next word; none of a word that ends the flags.
