@@ -6,7 +6,8 @@ use Rattle.bz_label.specs.Labels.{Package}
 use Rattle.bz_tree.specs.Tree.{Segment}
 use Rattle.bz_tree.specs.Rows.{RowPart}
 use Rattle.bz_attribute.specs.Elements.{IsFirstEqual, IsNextElement, ListRest, elements_left, rest_parts}
-use Rattle.bz_attribute.specs.Lists.{equals, same}
+use Rattle.bz_attribute.specs.Lists.{equals}
+use Rattle.bz_label.specs.Same.{same}
 use Rattle.bz_attribute.specs.private.Parts.{HasSought}
 use Rattle.bz_attribute.proofs.LabelSets.{any_joined}
 use Rattle.bz_label.specs.Values.{value_of}

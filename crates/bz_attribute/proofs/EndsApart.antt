@@ -1,14 +1,11 @@
 -- Two texts walked back from their ends.
-use Rattle.std.proofs.Common.{◌≡◌, ℕ, ◌-◌, ◌<◌, ◌&&◌, not, List, [], ◌∷◌, ◌++◌, Bool, true, false, length, get_or, take, refl, ap, sym, ◌∙◌, arith, append_assoc, take_all}
+use Rattle.std.proofs.Common.{◌≡◌, ℕ, ◌-◌, ◌<◌, ◌&&◌, not, List, [], ◌∷◌, ◌++◌, Bool, true, false, length, get_or, take, refl, ap, sym, ◌∙◌, append_assoc}
 use Rattle.std.specs.List.{list_all, list_any}
 use Rattle.std.proofs.lemmas.Bool.{and_parts, or_parts, ne_eqb}
-use Rattle.std.proofs.lemmas.List.{take_more}
 use Rattle.bz_label.specs.Labels.{is_slash}
-use Rattle.bz_label.specs.Values.{is_plain}
+use Rattle.bz_label.proofs.LastBytes.{split_last}
+use Rattle.bz_label.specs.Literals.{is_plain}
 use Rattle.bz_attribute.specs.private.Apart.{EndApart}
-
-pub split_last : (bs : List ℕ) (d : ℕ) → 0 < length bs → bs ≡ take (length bs - 1) bs ++ get_or bs (length bs - 1) d ∷ []
-split_last bs d some = sym (take_all (length bs) bs (omega arith)) ∙ ap (λ (n : ℕ). take n bs) (omega (arith, some)) ∙ take_more bs (length bs - 1) d (omega (arith, some))
 
 off : (b : Bool) → not b ≡ true → b ≡ false
 off true h = sym h

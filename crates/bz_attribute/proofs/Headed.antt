@@ -7,7 +7,8 @@ use Rattle.bz_tree.specs.declared.tree.GroupKind.{GroupKind}
 use Rattle.bz_tree.specs.declared.tree.GroupKind.TheVariants.{RuleCall}
 use Rattle.bz_tree.specs.declared.tree.Class.TheVariants.{Rule as RuleClass, Block, Load as LoadClass, Assign, Other as OtherClass}
 use Rattle.bz_tree.specs.Tree.{Item, leaf, group, Segs, Statement, items_of, segments, segs_of, is_rule, is_rule_after, is_call as is_call_kind}
-use Rattle.bz_tree.specs.Statement.{class_of, is_kept, is_load_word, is_assign}
+use Rattle.bz_tree.specs.Statement.{class_of, is_kept, is_assign}
+use Rattle.bz_tree.specs.Kinds.{is_load_word}
 use Rattle.bz_tree.specs.private.KindSteps.{is_assign_operator}
 use Rattle.bz_tree.specs.Rows.{RowPart, opening, closing, above, beside_part, item_parts, items_parts, segs_parts, parts_of}
 use Rattle.bz_attribute.specs.Rules.{Rule, rule_of, kind_text}

@@ -25,7 +25,7 @@ joint_told : (x : Item) → may_be_in_sum (first_of x) ≡ lists.may_be_in_sum x
 joint_told (leaf kind text) = refl
 joint_told (group kind segs one_comma end) = refl
 
-plus_told : (x : Item) → is_plus (first_of x) ≡ lists.is_plus x
+plus_told : (x : Item) → is_plus (first_of x) ≡ walk.is_plus x
 plus_told (leaf kind text) = refl
 plus_told (group kind segs one_comma end) = refl
 
@@ -88,7 +88,7 @@ pub record IsItemAt (nodes : List Item) (after ps : List RowPart) (at : ℕ) (p 
   pub xs : List Item
   pub are : nodes ≡ x ∷ xs
   pub joint : may_be_in_sum p ≡ lists.may_be_in_sum x
-  pub plus : is_plus p ≡ lists.is_plus x
+  pub plus : is_plus p ≡ walk.is_plus x
   pub list : opens_list p ≡ walk.is_list x
   pub long : (end : ℕ) → ItemEnds ps at end → end ≡ at + length (item_parts x)
   pub next : (end : ℕ) → ItemEnds ps at end → drop end ps ≡ value_parts xs after

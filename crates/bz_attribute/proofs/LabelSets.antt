@@ -4,8 +4,7 @@ use Rattle.std.specs.List.{list_any, flat_map}
 use Rattle.std.proofs.lemmas.List.Folds.{list_any-append}
 use Rattle.std.proofs.lemmas.Cmp.{nat_list_eq_equiv}
 use Rattle.bz_label.specs.Labels.{Package}
-use Rattle.bz_label.specs.Same.{completed}
-use Rattle.bz_attribute.specs.Lists.{same}
+use Rattle.bz_label.specs.Same.{completed, same}
 use Rattle.bz_token.specs.Common.{map_or}
 
 pub same_back : (home : Package) (a b : List ℕ) → same home a b ≡ same home b a

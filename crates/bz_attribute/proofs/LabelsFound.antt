@@ -10,7 +10,7 @@ use Rattle.bz_label.specs.declared.arguments.Chosen.TheVariants.{All, Values}
 use Rattle.bz_label.specs.declared.label_set.LabelSet.{LabelSet}
 use Rattle.bz_attribute.specs.Effects.{is_chosen}
 use Rattle.bz_attribute.specs.Elements.{AreListsAt, IsNextElement, ListRest, elements_left, rest_parts}
-use Rattle.bz_attribute.specs.Lists.{same}
+use Rattle.bz_label.specs.Same.{same}
 use Rattle.bz_attribute.specs.Rules.{string_value}
 use Rattle.bz_attribute.specs.private.ElementSets.{chooses, is_among, is_in, kept}
 use Rattle.bz_attribute.proofs.LabelSets.{any_joined, or_swap, same_back}

@@ -13,7 +13,6 @@ pub mod Headed
 pub mod ItemParts
 pub mod KindPlaced
 pub mod LabelSets
-pub mod LastBytes
 pub mod LabelsFound
 pub mod Lengths
 pub mod ListEdits

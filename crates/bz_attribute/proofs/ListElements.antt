@@ -75,7 +75,7 @@ beside_none (s ∷ ss) end one_comma qs =
     ap (λ (ps : List RowPart). end_len (segment_end ∷ ps)) (split s ss last) ∙ no_beside_argument s.before (items_of s.nodes) (beside_part s.suffix ++ (segs_parts (segs_of ss) ++ last))
 
 -- its text
-text_told : (xs : List Item) (qs : List RowPart) → string_in (items_parts (items_of xs) ++ segment_end ∷ qs) ≡ only_text xs
+pub text_told : (xs : List Item) (qs : List RowPart) → string_in (items_parts (items_of xs) ++ segment_end ∷ qs) ≡ only_text xs
 text_told [] qs = refl
 text_told (leaf String text ∷ []) qs = refl
 text_told (leaf String text ∷ leaf k t ∷ xs) qs = refl

@@ -8,10 +8,9 @@ use Rattle.bz_token.specs.declared.token.Kind.TheVariants.{Operator}
 use Rattle.bz_token.specs.Common.{is_empty, map_or}
 use Rattle.bz_tree.specs.declared.tree.GroupKind.TheVariants.{List as ListKind}
 use Rattle.bz_tree.specs.Tree.{Item, leaf, group, Segment}
-use Rattle.bz_attribute.specs.Rules.{elements}
-use Rattle.bz_attribute.specs.Lists.{may_be_in_sum, is_plus, only_list, sum_of, parts, edit_piece, edit_parts}
+use Rattle.bz_attribute.specs.ListWalk.{elements, ends, is_list, is_only, is_part, parts_from, edit_element, edit_first_part, edit_list, edit_from, edit_one_from, edit_element_from, is_plus}
+use Rattle.bz_attribute.specs.Lists.{may_be_in_sum, only_list, sum_of, parts, edit_piece, edit_parts}
 use Rattle.bz_attribute.specs.Effects.{edit_first, edit_part}
-use Rattle.bz_attribute.specs.ListWalk.{ends, is_list, is_only, is_part, parts_from, edit_element, edit_first_part, edit_list, edit_from, edit_one_from, edit_element_from}
 
 -- the piece that begins a list of items, and those after it
 abbrev front : List Item → List Item

@@ -20,7 +20,7 @@ use Rattle.bz_tree.proofs.Rows.FromParts.{segs_back}
 
 -- an edit of items, of which `start` says whether a piece begins with the first: where that is no list part, it stays
 abbrev pub KeepsOthers : (Bool → List Item → List Item) → Type 0
-KeepsOthers e = (start : Bool) (x : Item) (xs : List Item) → walk.is_part start x xs ≡ false → e start (x ∷ xs) ≡ x ∷ e (lists.is_plus x) xs
+KeepsOthers e = (start : Bool) (x : Item) (xs : List Item) → walk.is_part start x xs ≡ false → e start (x ∷ xs) ≡ x ∷ e (walk.is_plus x) xs
 
 -- Of nodes that begin at `from`, those before `at` are no list parts. A piece begins there where `start`.
 pub record IsWalked (whole start : Bool) (nodes : List Item) (after ps : List RowPart) (from at : ℕ) : Type 0 where
@@ -83,7 +83,7 @@ walk_passes whole start next ps from at end d w h more none plus end_is = λ nod
     let k = w nodes after read in
     let i = item_at k.back after ps at d k.read h more in
     let no_part : walk.is_part start i.x i.xs ≡ false = (λ j. start && sym i.list j && (sym (piece_told i.xs after) ∙ ap ends_piece (sym (i.next end end_is))) j) ∙ none in
-    let is_next : next ≡ lists.is_plus i.x = plus ∙ i.plus in
+    let is_next : next ≡ walk.is_plus i.x = plus ∙ i.plus in
     record {
       front = k.front ++ i.x ∷ [];
       back = i.xs;

@@ -9,14 +9,14 @@ use Rattle.bz_token.specs.Common.{map_or}
 use Rattle.bz_token.specs.Strings.{is_quote}
 use Rattle.bz_token.proofs.Classes.{same_bytes}
 use Rattle.bz_label.specs.Labels.{Package, is_slash}
-use Rattle.bz_label.specs.Values.{is_plain, value_of}
+use Rattle.bz_label.specs.Values.{value_of}
+use Rattle.bz_label.specs.Literals.{is_plain}
 use Rattle.bz_label.specs.private.ValueSteps.{content, inner_of, is_newline, units, values, first_len, inner_value, value_in}
 use Rattle.bz_label.proofs.ValueForms.{opened_other}
 use Rattle.bz_label.proofs.Literals.{plain_first, shut, step, units_joined}
-use Rattle.bz_attribute.specs.Lists.{same}
+use Rattle.bz_label.specs.Same.{same}
 use Rattle.bz_attribute.specs.private.Apart.{EndApart}
-use Rattle.bz_attribute.proofs.EndsApart.{split_last}
-use Rattle.bz_attribute.proofs.LastBytes.{EndsIn, after, ends_apart}
+use Rattle.bz_label.proofs.LastBytes.{EndsIn, after, ends_apart, split_last}
 
 some_is : {A : Type 0} (x y : A) → Some x ≡ Some y → x ≡ y
 some_is x y e = cc

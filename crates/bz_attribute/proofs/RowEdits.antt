@@ -6,7 +6,8 @@ use Rattle.bz_tree.specs.Tree.{Segment, Statement}
 use Rattle.bz_tree.specs.declared.row.Part.{Part}
 use Rattle.bz_tree.specs.Rows.{RowPart, part_view, parts_of}
 use Rattle.bz_attribute.specs.Rules.{Rule}
-use Rattle.bz_attribute.specs.Effects.{done, with_args}
+use Rattle.bz_attribute.specs.Effects.{with_args}
+use Rattle.bz_attribute.specs.Reports.{done}
 use Rattle.bz_attribute.specs.RowEdits.{IsRowEdit, IsWithin, replaced_at}
 use Rattle.bz_attribute.specs.RowPlaces.{IsRuleRow}
 use Rattle.bz_attribute.specs.declared.done.Done.{Done}

@@ -5,7 +5,6 @@ use Rattle.bz_tree.specs.declared.tree.Group.{Group as GroupValue, out-Group}
 use Rattle.bz_tree.specs.Tree.{group, Segment, segs_of, segments}
 use Rattle.bz_tree.specs.View.{node_view, segs_view, texts}
 use Rattle.bz_tree.proofs.Trees.Views.{view-Group, view-group}
-use Rattle.bz_attribute.specs.Rules.{elements}
 use Rattle.bz_tree.proofs.Rows.FromParts.{listed_back}
 
 pub segments_of : (ss : List Segment) → segments (segs_of ss) ≡ ss
@@ -14,6 +13,3 @@ segments_of (s ∷ ss) = λ i. record { before = s.before; nodes = listed_back s
 
 pub view_of_group : (g : GroupValue) → node_view (Group g) ≡ group (out-Group g).kind (segs_of (segs_view (out-Group g).segs.items)) (out-Group g).one_comma (texts (out-Group g).end.items)
 view_of_group g = view-Group g ∙ view-group g
-
-pub elements_group : (g : GroupValue) → elements (node_view (Group g)) ≡ segs_view (out-Group g).segs.items
-elements_group g = rw (view_of_group g) (segments_of (segs_view (out-Group g).segs.items))

@@ -14,16 +14,10 @@ use Rattle.bz_label.specs.declared.arguments.Chosen.{Chosen}
 use Rattle.bz_label.specs.declared.arguments.Chosen.TheVariants.{All, Values}
 use Rattle.bz_attribute.specs.Rules.{Rule, rule_of, is_named, value}
 use Rattle.bz_attribute.specs.Lists.{with_value, parts, edit_parts, edit_piece, equals, only_list, pieces, sum_of}
-use Rattle.bz_attribute.specs.declared.done.Done.{Done}
 use Rattle.bz_attribute.specs.declared.done.Note.{Note}
 use Rattle.bz_attribute.specs.declared.done.Note.TheVariants.{NoAttribute, NotAList}
 
--- what a command reports (`Done`, in `src/done.rt`): where there is a note, nothing is changed
-abbrev pub done : Option Note → Bool → Done
-done None changed = record { changed = changed; line = None; note = None }
-done (Some note) changed = record { changed = false; line = None; note = Some note }
-
--- an argument has this name
+-- some argument has this name
 abbrev pub has : List ℕ → List Segment → Bool
 has attr args = list_any (is_named attr) args
 
@@ -49,10 +43,6 @@ is_chosen home (Values values) s = list_any (λ word. equals home word s) values
 -- the elements that the command does not mean
 abbrev pub unchosen : Package → Chosen → List Segment → List Segment
 unchosen home chosen ss = filter (λ s. not (is_chosen home chosen s)) ss
-
--- an element of a list part is chosen
-abbrev pub chooses : Package → Chosen → Segment → Bool
-chooses home chosen a = list_any (list_any (is_chosen home chosen)) (parts (value a))
 
 -- the whole value is one list, and f leaves nothing of it
 abbrev pub loses_all : (List Segment → List Segment) → List Item → Bool
@@ -97,9 +87,6 @@ abbrev pub with_args : (List Segment → List Segment) → Statement → Stateme
 with_args f s = record s {
   nodes = map_or s.nodes (λ r. nodes_of (record r { args = f r.args })) (rule_of s.nodes);
 }
-
-abbrev pub slot_done : (List Segment → Done) → Option Statement → Done
-slot_done f slot = map_or (done None false) (λ s. map_or (done None false) (λ r. f r.args) (rule_of s.nodes)) slot
 
 -- a rule stands in the slot
 abbrev pub holds_rule : Option Statement → Bool

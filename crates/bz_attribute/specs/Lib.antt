@@ -4,6 +4,7 @@ pub mod Elements
 pub mod Heads
 pub mod Lists
 pub mod Marks
+pub mod Reports
 pub mod Rules
 pub mod RowEdits
 pub mod RowPlaces

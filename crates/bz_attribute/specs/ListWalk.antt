@@ -1,12 +1,19 @@
 -- The list parts of a value as a walk over its items meets them, and what an edit of one leaves of those after it
 -- (`Lists` and `edit_part` of `Effects` say what they are).
-use Rattle.std.specs.Prelude.{List, [], ◌∷◌, ◌++◌, Bool, true, false, ◌&&◌, if◌then◌else◌}
+use Rattle.std.specs.Prelude.{List, [], ◌∷◌, ◌++◌, codes, Bool, true, false, ◌&&◌, if◌then◌else◌}
 use Rattle.std.specs.List.{list_any}
 use Rattle.bz_tree.specs.declared.tree.GroupKind.TheVariants.{List as ListKind}
-use Rattle.bz_tree.specs.Tree.{Item, leaf, group, Segment, segs_of, segments}
-use Rattle.bz_attribute.specs.Rules.{elements}
-use Rattle.bz_attribute.specs.Lists.{is_plus}
+use Rattle.bz_tree.specs.Tree.{Item, leaf, group, Segment, segs_of, segments, is_operator_item}
 use Rattle.bz_attribute.specs.Effects.{edit_first, edit_part}
+
+-- the operator `+`
+abbrev pub is_plus : Item → Bool
+is_plus x = is_operator_item (codes "+") x
+
+-- the segments of a bracket
+abbrev pub elements : Item → List Segment
+elements (leaf kind text) = []
+elements (group kind segs one_comma end) = segments segs
 
 abbrev pub is_list : Item → Bool
 is_list (group ListKind segs one_comma end) = true

@@ -6,13 +6,9 @@ use Rattle.bz_token.specs.declared.token.Kind.TheVariants.{Keyword, Operator}
 use Rattle.bz_tree.specs.declared.tree.GroupKind.TheVariants.{List as ListKind}
 use Rattle.bz_tree.specs.Tree.{Item, leaf, group, Segment, segs_of, segments, is_operator_item}
 use Rattle.bz_label.specs.Labels.{Package}
-use Rattle.bz_label.specs.Same.{completed}
+use Rattle.bz_label.specs.Same.{same}
 use Rattle.bz_attribute.specs.Rules.{name_of, string_value}
 use Rattle.bz_token.specs.Common.{map_or}
-
--- two texts are the same label in the package `home`
-abbrev pub same : Package → List ℕ → List ℕ → Bool
-same home a b = bytes_eq (completed home a) (completed home b)
 
 -- the element is one string whose value is the same label as the word
 abbrev pub equals : Package → List ℕ → Segment → Bool
@@ -25,10 +21,6 @@ may_be_in_sum (leaf Keyword text) = false
 may_be_in_sum (leaf Operator text) = bytes_eq text (codes "+") || bytes_eq text (codes ".")
 may_be_in_sum _ = true
 
--- the operator `+`
-abbrev pub is_plus : Item → Bool
-is_plus x = is_operator_item (codes "+") x
-
 -- the elements of a value, or of a piece of one, that is one list
 abbrev pub only_list : List Item → Option (List Segment)
 only_list (group ListKind segs one_comma end ∷ []) = Some (segments segs)
@@ -37,7 +29,7 @@ only_list _ = None
 -- A value is split at each plus operator, if all that stands in it outside inner brackets is operands, plus
 -- operators and dots. A piece that is one list is a list part.
 abbrev pub pieces : List Item → List (List Item)
-pieces nodes = if list_all may_be_in_sum nodes then slice_split is_plus nodes else nodes ∷ []
+pieces nodes = if list_all may_be_in_sum nodes then slice_split (is_operator_item (codes "+")) nodes else nodes ∷ []
 
 -- pieces with a plus operator between two
 abbrev pub sum_of : List (List Item) → List Item

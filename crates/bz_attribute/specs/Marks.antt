@@ -1,6 +1,5 @@
 -- Which statements a target marks (buildozer README, targets).
 -- Begin with `marks`.
--- Of later stops: 5 `Rule`, `is_text`, `kind_text`, `name_in`, `rule_of`.
 use Rattle.std.specs.Prelude.{ℕ, ◌==◌, Bool, true, false, codes, bytes_eq}
 use Rattle.bz_tree.specs.Tree.{Statement}
 use Rattle.bz_label.specs.Labels.{Target, Name, Pkg, All, Kind, Line}

@@ -2,7 +2,7 @@
 -- arguments (buildozer README).
 -- Begin with `rule_of`.
 use Rattle.std.specs.Prelude.{ℕ, ◌-◌, List, [], ◌∷◌, length, take, Bool, false, if◌then◌else◌, Option, Some, None, codes, drop, bytes_eq, find, option_and_then, flat_map}
-use Rattle.std.specs.List.{last_or}
+use Rattle.bz_token.specs.Common.{last_of}
 use Rattle.bz_token.specs.declared.token.Kind.TheVariants.{Identifier, String}
 use Rattle.bz_tree.specs.declared.tree.GroupKind.TheVariants.{RuleCall}
 use Rattle.bz_tree.specs.Tree.{Item, leaf, group, Segment, is_operator_item, is_rule, segments}
@@ -48,11 +48,8 @@ pub record Rule : Type 0 where
   pub one_comma : Bool
   pub end : List (List ℕ)
 
-abbrev pub elements : Item → List Segment
-elements (leaf kind text) = []
-elements (group kind segs one_comma end) = segments segs
-
--- the rule with this kind and this call, a `RuleCall` in each rule that was read (`segment_of`, stop 7)
+-- The rule with this kind and this call. Of the calls that `is_rule` allows this takes a `RuleCall` alone: in
+-- a statement that was read the call of a rule is one (bz_tree, `segment_of`).
 abbrev pub with_call : List Item → Option Item → Option Rule
 with_call kind (Some (group RuleCall segs one_comma end)) =
     Some (record { kind = kind; args = segments segs; one_comma = one_comma; end = end })
@@ -60,8 +57,7 @@ with_call kind _ = None
 
 -- the rule that some nodes are: its call is their last
 abbrev pub rule_of : List Item → Option Rule
-rule_of nodes =
-    if is_rule nodes then with_call (take (length nodes - 1) nodes) (last_or None nodes) else None
+rule_of nodes = if is_rule nodes then with_call (take (length nodes - 1) nodes) (last_of nodes) else None
 
 -- the text of a token
 abbrev pub written : Item → List ℕ

@@ -1,18 +1,17 @@
 -- How labels and rules are shown (this project's own rule).
 -- Begin with `shown_text`.
--- Of later stops: 5 `kind_text`, `name_in`, `rule_of`.
-use Rattle.std.specs.Prelude.{ℕ, List, [], ◌∷◌, ◌++◌, codes, unwrap_or}
+use Rattle.std.specs.Prelude.{ℕ, List, [], ◌∷◌, ◌++◌, codes, unwrap_or, Some}
 use Rattle.std.specs.Fmt.{decimal}
 use Rattle.bz_tree.specs.Tree.{Statement}
-use Rattle.bz_label.specs.Labels.{Package, Target, Name, Pkg, All, Kind, Line}
+use Rattle.bz_label.specs.Labels.{Package, in_package, Target, Name, Pkg, All, Kind, Line}
 use Rattle.bz_attribute.specs.Rules.{rule_of, kind_text, name_in}
 use Rattle.bz_token.specs.Common.{map_or}
 
--- a package and the colon after it (47 is `/`, 58 `:`, and below 37 `%`)
+-- a package and the colon after it
 abbrev pub home_text : Package → List ℕ
-home_text home = map_or (codes "-:") (λ path. 47 ∷ 47 ∷ (path ++ 58 ∷ [])) home
+home_text home = map_or (codes "-:") (λ path. in_package (Some path) (codes ":")) home
 
--- a target, as it is written in a label
+-- a target, as it is written in a label (37 is `%`)
 abbrev pub target_text : Target → List ℕ
 target_text (Name name) = name
 target_text Pkg = codes "__pkg__"

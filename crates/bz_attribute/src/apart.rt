@@ -2,9 +2,10 @@
 
 ghost use Rattle.std.specs.Prelude.{◌≡◌, true, false, IsTrue, ◌&&◌, not};
 ghost use Rattle.bz_label.specs.Labels.{Package, is_slash};
-ghost use Rattle.bz_label.specs.Values.{is_plain, value_of};
+ghost use Rattle.bz_label.specs.Values.{value_of};
+ghost use Rattle.bz_label.specs.Literals.{is_plain};
 ghost use Rattle.bz_token.specs.Common.{map_or};
-ghost use Rattle.bz_attribute.specs.Lists.{same};
+ghost use Rattle.bz_label.specs.Same.{same};
 ghost use Rattle.bz_attribute.specs.private.Apart.{EndApart};
 
 /// A string token of this text has no value that is the same label as the word, whatever the package is. False: it may

@@ -2,7 +2,7 @@
 
 ghost use Rattle.std.specs.Prelude.{◌≡◌, None, IfOk, Some, false};
 ghost use Rattle.bz_attribute.specs.declared.done.Note.TheVariants.{AttributeExists, NoAttribute, NoValue, NotAList};
-ghost use Rattle.bz_attribute.specs.Effects as spec;
+ghost use Rattle.bz_attribute.specs.Reports as spec;
 
 use bz_label::Text;
 use bz_memory::NoMemory;

@@ -1,7 +1,7 @@
 //! What a command makes of the parts of a rule: others come to stand in a place of them.
 
 ghost use Rattle.std.specs.Prelude.{◌≡◌, None, false, true};
-ghost use Rattle.bz_attribute.specs.Effects as effects;
+ghost use Rattle.bz_attribute.specs.Reports as reports;
 
 use crate::done::Done;
 use crate::place::Place;
@@ -16,7 +16,7 @@ pub struct Edit {
 impl Edit {
     /// A change at a place.
     pub fn at(place: Place) -> Edit
-        ensures { result ≡ record { done = effects.done None true; place = place } }
+        ensures { result ≡ record { done = reports.done None true; place = place } }
     {
         Edit {
             done: Done::quiet(true),
@@ -24,7 +24,7 @@ impl Edit {
         }
     }
 
-    /// Nothing changes.
+    /// No change, and what is told of that.
     pub fn none(done: Done) -> Edit
         ensures { result ≡ record { done = done; place = record { from = 0; to = 0 } } }
     {

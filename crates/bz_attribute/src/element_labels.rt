@@ -23,7 +23,8 @@ fn kept_value<'a>(
     string: Option<&'a str>,
 ) -> Option<Bytes<'a>>
     ensures value { option_map left result
-        ≡ kept home.now (choice words.entry) (option_and_then value_of (option_map (λ text. text.now) string.entry)) }
+        ≡ kept home.now (choice words.entry)
+        (option_and_then value_of (option_map (λ text. text.now) string.entry)) }
     ensures good { IfSome result (λ bytes. IsTrue (is_good bytes)) }
 {
     let value = value_of(string?)?;

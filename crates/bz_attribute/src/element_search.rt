@@ -4,7 +4,8 @@ ghost use Rattle.std.specs.Prelude.{◌≡◌, ◌≤◌, false, map, length, op
 ghost use Rattle.std.specs.List.{list_any};
 ghost use Rattle.bz_tree.specs.Rows.{part_view};
 ghost use Rattle.bz_attribute.specs.Elements.{ForRest, IsFirstEqual, elements_left};
-ghost use Rattle.bz_attribute.specs.Lists.{equals, same};
+ghost use Rattle.bz_attribute.specs.Lists.{equals};
+ghost use Rattle.bz_label.specs.Same.{same};
 ghost use Rattle.bz_attribute.specs.private.Parts.{HasSought};
 ghost use Rattle.bz_label.specs.Labels as labels;
 ghost use Rattle.bz_label.specs.Values.{value_of};

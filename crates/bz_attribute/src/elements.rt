@@ -30,7 +30,8 @@ pub struct Element<'a> {
 
 /// Where the value of the first argument of a name begins.
 pub fn value_place(parts: &[Part<'_>], name: &str) -> Option<usize>
-    ensures some { IfSome result (λ at. ForRule (map part_view parts.now) (λ s r ps. IsValueAt name.now s r ps at)) }
+    ensures some { IfSome result (λ at. ForRule (map part_view parts.now)
+        (λ s r ps. IsValueAt name.now s r ps at)) }
     ensures none { IfNone result (ForRule (map part_view parts.now) (λ s r ps. has name.now r.args ≡ false)) }
     ensures within { IfSome result (λ at. at ≤ length parts.now) }
 {
@@ -105,7 +106,8 @@ fn ends_piece(parts: &[Part<'_>]) -> bool
 #[tactic(auto, using(crate::proofs::ListWalk::all_joints, crate::proofs::ListWalk::joints_pass, crate::proofs::ListWalk::no_joint))]
 fn are_joints(parts: &[Part<'_>], from: usize) -> bool
     requires { from ≤ length parts.now }
-    ensures { ForValue (map part_view parts.now) from (λ nodes after ps. result ≡ list_all lists.may_be_in_sum nodes) }
+    ensures { ForValue (map part_view parts.now) from
+        (λ nodes after ps. result ≡ list_all lists.may_be_in_sum nodes) }
 {
     let mut at = from;
     while at < parts.len() && !is_end(&parts[at]) {
@@ -146,7 +148,8 @@ pub fn first_list(parts: &[Part<'_>], value: usize) -> Option<usize>
     requires { value ≤ length parts.now }
     ensures some { IfSome result (λ to. ForValue (map part_view parts.now) value
         (λ nodes after ps. IsListIn true nodes after ps value to)) }
-    ensures none { IfNone result (ForValue (map part_view parts.now) value (λ nodes after ps. HasNoList true nodes)) }
+    ensures none { IfNone result (ForValue (map part_view parts.now) value
+        (λ nodes after ps. HasNoList true nodes)) }
     ensures within { IfSome result (λ to. (value < to) × (to ≤ length parts.now)) }
 {
     // Most values are one list.
@@ -200,7 +203,8 @@ pub fn next_element<'a>(parts: &[Part<'a>], at: usize) -> Option<Element<'a>>
     requires { at ≤ length parts.now }
     ensures some { IfSome result (λ e. ForRest (map part_view parts.now) at (λ rest after ps.
         IsElementOf rest after ps at e.token e.to (option_map (λ text. text.now) e.string))) }
-    ensures none { IfNone result (ForRest (map part_view parts.now) at (λ rest after ps. rest.elements ≡ [])) }
+    ensures none { IfNone result (ForRest (map part_view parts.now) at
+        (λ rest after ps. rest.elements ≡ [])) }
     ensures from { IfSome result (λ e. e.from ≡ at) }
     ensures within { IfSome result (λ e. (at ≤ e.token) × ((e.token < e.to) × (e.to ≤ length parts.now))) }
 {
@@ -235,7 +239,8 @@ pub(crate) fn bare_string<'a>(parts: &[Part<'a>]) -> Option<&'a str>
 /// Where the elements of a list part end, which begin at a place.
 pub fn elements_end(parts: &[Part<'_>], from: usize) -> usize
     requires { from ≤ length parts.now }
-    ensures elements { ForRest (map part_view parts.now) from (λ rest after ps. AreElementsTo rest ps from result) }
+    ensures elements { ForRest (map part_view parts.now) from
+        (λ rest after ps. AreElementsTo rest ps from result) }
     ensures within { (from ≤ result) × (result ≤ length parts.now) }
 {
     let rest = &parts[from..];
@@ -249,7 +254,8 @@ pub fn next_of_value<'a>(parts: &[Part<'a>], at: usize) -> Option<Element<'a>>
     requires { at ≤ length parts.now }
     ensures some { IfSome result (λ e. ForRest (map part_view parts.now) at (λ rest after ps.
         IsNextElement rest after ps at e.from e.token e.to (option_map (λ text. text.now) e.string))) }
-    ensures none { IfNone result (ForRest (map part_view parts.now) at (λ rest after ps. elements_left rest ≡ [])) }
+    ensures none { IfNone result (ForRest (map part_view parts.now) at
+        (λ rest after ps. elements_left rest ≡ [])) }
     ensures within { IfSome result
         (λ e. (at ≤ e.from) × ((e.from ≤ e.token) × ((e.token < e.to) × (e.to ≤ length parts.now)))) }
 {

@@ -36,7 +36,8 @@ fn begins_with(parts: &[Part<'_>], name: &str) -> bool
 /// the arguments are what stands in the bracket that opens first.
 pub fn find_argument(parts: &[Part<'_>], name: &str) -> Option<usize>
     ensures found { ForRule (map part_view parts.now) (λ s r ps. HasArgument name.now s r result) }
-    ensures first { (before : List RowPart) (args : List Segment) → AreArguments before args (map part_view parts.now)
+    ensures first { (before : List RowPart) (args : List Segment)
+        → AreArguments before args (map part_view parts.now)
         → HasArgumentAmong name.now before args result }
     ensures begun { IfSome result (λ at. arguments_begin (map part_view parts.now) ≤ at) }
     ensures within { IfSome result (λ at. at < length parts.now) }
@@ -80,7 +81,8 @@ pub fn first_argument<'a>(parts: &[Part<'a>]) -> FirstArgument<'a>
     requires { 0 < length parts.now }
     ensures within { (result.nodes ≤ result.to) × (result.to ≤ length parts.now) }
     ensures progress { 0 < result.to }
-    ensures argument { (a : Segment) (others : List Segment) → map part_view parts.now ≡ argument_parts a others
+    ensures argument { (a : Segment) (others : List Segment)
+        → map part_view parts.now ≡ argument_parts a others
         → IsFirstArgument a result.nodes result.to (option_map (λ name. name.now) result.name) }
 {
     let nodes = comments_len(parts);

@@ -35,7 +35,8 @@ fn has_name(args: &[Seg<'_>], name: &str) -> bool
 
 // The string that the first argument `name` is, where it is one.
 fn name_text<'n>(args: &'n [Seg<'_>]) -> Option<&'n str>
-    ensures { option_and_then value_of (option_map (λ text. text.now) result) ≡ rules.name_in (segs_view args.now) }
+    ensures { option_and_then value_of (option_map (λ text. text.now) result)
+        ≡ rules.name_in (segs_view args.now) }
 {
     let arg = args.iter().find(|arg| is_named(arg, "name"))?;
     only_text(value_nodes(arg))

@@ -153,7 +153,8 @@ pub fn new_place(parts: &[Part<'_>]) -> Place
 /// it. Where none has the name, it is an empty place after the last argument.
 pub fn argument_place(parts: &[Part<'_>], name: &str) -> Place
     ensures within { (result.from ≤ result.to) × (result.to ≤ length parts.now) }
-    ensures place { ForRule (map part_view parts.now) (λ s r ps. IsPlaceOf name.now s r ps result.from result.to) }
+    ensures place { ForRule (map part_view parts.now)
+        (λ s r ps. IsPlaceOf name.now s r ps result.from result.to) }
 {
     match find_argument(parts, name) {
         Some(at) => Place {

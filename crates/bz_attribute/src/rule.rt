@@ -65,8 +65,8 @@ fn is_identifier_item(node: &Node<'_>) -> bool
     matches!(node, Node::Token(leaf) if matches!(leaf.kind, Kind::Identifier))
 }
 
-/// The text of what is one string token.
-pub fn only_text<'n>(nodes: &'n [Node<'_>]) -> Option<&'n str>
+// The text of what is one string token.
+pub(crate) fn only_text<'n>(nodes: &'n [Node<'_>]) -> Option<&'n str>
     ensures { option_map (λ text. text.now) result ≡ spec.only_text (nodes_view nodes.now) }
 {
     match nodes {

@@ -9,7 +9,8 @@ use std::alloc::Global;
 
 /// A label, `//PATH:TARGET`; standard input is `-:TARGET`.
 pub fn label(alloc: Global, home: &Package, target: &Target) -> Result<String, NoMemory>
-    ensures { IfOk result (λ text. string_bytes text ≡ spec.home_text home.now ++ spec.target_text target.now) }
+    ensures { IfOk result (λ text. string_bytes text
+        ≡ spec.home_text home.now ++ spec.target_text target.now) }
 {
     let mut text = String::new(alloc);
     push_home(&mut text, home)?;

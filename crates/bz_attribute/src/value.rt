@@ -1,12 +1,13 @@
-//! The value of an argument as a whole, by its parts: where it ends, and whether it is one list.
+//! The value of an argument as a whole, by its parts: where it ends, and whether it is one string or one list.
 
-ghost use Rattle.std.specs.Prelude.{◌≡◌, ◌<◌, ◌≤◌, ◌∷◌, IfSome, is_some, true, drop, map, length};
+ghost use Rattle.std.specs.Prelude.{◌≡◌, ◌<◌, ◌≤◌, ◌∷◌, option_map, IfSome, is_some, true, drop, map, length};
 ghost use Rattle.bz_tree.specs.Rows.{part_view, segment_end};
 ghost use Rattle.bz_attribute.specs.Elements.{ForValue, OnlyList};
 ghost use Rattle.bz_attribute.specs.Lists.{only_list};
+ghost use Rattle.bz_attribute.specs.Rules.{only_text};
 ghost use Rattle.bz_attribute.specs.private.Parts as spec;
 
-use crate::elements::item_end;
+use crate::elements::{item_end, string_in};
 use crate::place::parts_len;
 use bz_tree::{GroupKind, Part};
 
@@ -14,7 +15,8 @@ use bz_tree::{GroupKind, Part};
 #[tactic(auto, using(crate::proofs::OnlyLists::value_ended, crate::proofs::Slices::rest_seen))]
 pub fn value_end(parts: &[Part<'_>], value: usize) -> usize
     requires { value ≤ length parts.now }
-    ensures end { ForValue (map part_view parts.now) value (λ nodes after ps. drop result ps ≡ segment_end ∷ after) }
+    ensures end { ForValue (map part_view parts.now) value
+        (λ nodes after ps. drop result ps ≡ segment_end ∷ after) }
     ensures within { (value ≤ result) × (result ≤ length parts.now) }
 {
     value + parts_len(&parts[value..], true)
@@ -34,7 +36,8 @@ fn ends_value(parts: &[Part<'_>]) -> bool
 
 // The value that they begin with is one list.
 pub(crate) fn is_one_list(parts: &[Part<'_>]) -> bool
-    ensures told { ForValue (map part_view parts.now) 0 (λ nodes after ps. result ≡ is_some (only_list nodes)) }
+    ensures told { ForValue (map part_view parts.now) 0
+        (λ nodes after ps. result ≡ is_some (only_list nodes)) }
     ensures some { result ≡ true → 0 < length parts.now }
 {
     begins_list(parts) && ends_value(&parts[item_end(parts, 0)..])
@@ -44,11 +47,22 @@ pub(crate) fn is_one_list(parts: &[Part<'_>]) -> bool
 #[tactic(auto, using(crate::proofs::OnlyLists::only_there, crate::proofs::Slices::rest_seen))]
 pub fn only_list(parts: &[Part<'_>], value: usize) -> Option<usize>
     requires { value ≤ length parts.now }
-    ensures list { ForValue (map part_view parts.now) value (λ nodes after ps. OnlyList nodes after ps result) }
+    ensures list { ForValue (map part_view parts.now) value
+        (λ nodes after ps. OnlyList nodes after ps result) }
     ensures within { IfSome result (λ list. list ≤ length parts.now) }
 {
     if !is_one_list(&parts[value..]) {
         return None;
     }
     Some(value + 1)
+}
+
+/// The text of a value, where it is one string token.
+#[tactic(auto, using(crate::proofs::ListElements::text_told, crate::proofs::Slices::rest_seen))]
+pub fn only_string<'a>(parts: &[Part<'a>], value: usize) -> Option<&'a str>
+    requires { value ≤ length parts.now }
+    ensures { ForValue (map part_view parts.now) value
+        (λ nodes after ps. option_map (λ text. text.now) result ≡ only_text nodes) }
+{
+    string_in(&parts[value..])
 }

@@ -44,7 +44,8 @@ pub fn push_element(alloc: Global, value: &str, written: &mut Parts<'_>) -> Resu
 /// Appends the name of an argument and its equals sign. `Err`: memory was refused, and the name may have been appended.
 pub fn begin_argument(name: &str, written: &mut Parts<'_>) -> Result<(), NoMemory>
     ensures { OnOk result (map part_view written.new.items
-        ≡ map part_view written.old.items ++ (a_token Identifier name.now ∷ a_token Operator (codes "=") ∷ [])) }
+        ≡ map part_view written.old.items
+        ++ (a_token Identifier name.now ∷ a_token Operator (codes "=") ∷ [])) }
 {
     push_token(Kind::Identifier, name, written)?;
     push(written, Part::Token(Kind::Operator, "="))

@@ -5,7 +5,7 @@ use Rattle.std.proofs.lemmas.Grind.{common_steps}
 use Rattle.std.proofs.lemmas.Bool.{false≢true}
 use Rattle.std.proofs.lemmas.Bool.Decides.{nat_tests}
 use Rattle.std.proofs.lemmas.List.{length-append}
-use Rattle.bz_token.specs.Lexical.{is_comment, is_newline, is_text, is_word_byte}
+use Rattle.bz_token.specs.Lexical.{is_comment, is_text, is_word_byte}
 use Rattle.bz_token.specs.declared.token.Kind.TheVariants.{Identifier}
 use Rattle.bz_token.proofs.Ends.{comment_parts}
 use Rattle.bz_tree.specs.Rows.{RowPart, above}
@@ -14,7 +14,7 @@ use Rattle.bz_layout_laws.specs.Legible.{AreComments}
 use Rattle.bz_canonical.specs.SealedRules.{IsLevel, between, comment_rows}
 use Rattle.bz_canonical.specs.SealedRules.IsLevel.{inside, outside}
 use Rattle.bz_canonical.proofs.CutTexts.{cut_at, rest_at}
-use Rattle.bz_token.specs.Common.{begins}
+use Rattle.bz_token.specs.Common.{begins, is_newline}
 
 pub line_of : (text after : List ℕ) → list_any is_newline text ≡ false → prefix_len (λ b. not (b == 10)) (text ++ 10 ∷ after) ≡ length text
 line_of [] after none = grind (arith, common_steps)

@@ -5,8 +5,8 @@ use Rattle.std.proofs.lemmas.Bool.{and_parts, eqb-true, false≢true}
 use Rattle.std.proofs.lemmas.List.{append_cancel_left, length-append}
 use Rattle.std.specs.List.{list_any}
 use Rattle.std.specs.Prelude.{codes, Option, Some, None, option_to_list}
-use Rattle.bz_token.specs.Common.{is_empty}
-use Rattle.bz_token.specs.Lexical.{is_comment, is_name, is_newline, is_text, is_word_byte}
+use Rattle.bz_token.specs.Common.{is_empty, is_newline}
+use Rattle.bz_token.specs.Lexical.{is_comment, is_name, is_text, is_word_byte}
 use Rattle.bz_token.specs.declared.token.Kind.TheVariants.{Identifier, Operator}
 use Rattle.bz_tree.specs.declared.tree.GroupKind.TheVariants.{RuleCall}
 use Rattle.bz_tree.specs.Tree.{Item, Segment, Statement, items_of, leaf, segs_of, is_operator_item}

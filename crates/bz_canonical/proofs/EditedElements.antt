@@ -1,18 +1,21 @@
 -- Elements of which some go or become another, and their lines.
 use Rattle.std.proofs.Common.{◌≡◌, ◌+◌, ℕ, List, [], ◌∷◌, ◌++◌, length, Bool, true, false, ◌||◌, if◌then◌else◌, refl, sym, ap, ◌∙◌, append_assoc, append-nil}
 use Rattle.std.proofs.lemmas.List.Folds.{list_any-append}
-use Rattle.std.specs.Prelude.{nat_le, None, Some}
+use Rattle.std.specs.Prelude.{nat_le}
 use Rattle.bz_label.specs.Labels.{Package}
 use Rattle.bz_label.specs.Values.{quoted}
 use Rattle.bz_layout.specs.Pieces.{bytes_of, comments, indent, suffix_piece}
 use Rattle.bz_layout.specs.Respell.{respell}
 use Rattle.bz_token.specs.declared.token.Kind.TheVariants.{String}
+use Rattle.bz_rule.specs.declared.forms.AttributeValues.{AttributeValues}
 use Rattle.bz_canonical.specs.declared.edited.ListEdit.{ListEdit}
+use Rattle.bz_canonical.specs.declared.edited.Becomes.{Becomes}
+use Rattle.bz_canonical.specs.declared.edited.Becomes.TheVariants.{Kept, Gone, Other}
 use Rattle.bz_canonical.specs.declared.edited.NewString.{NewString}
 use Rattle.bz_canonical.specs.declared.edited.Passed.{Passed}
 use Rattle.bz_canonical.specs.declared.lists.ReadElement.{ReadElement}
 use Rattle.bz_canonical.specs.declared.arguments.Pending.{Pending}
-use Rattle.bz_canonical.specs.private.Edited.{AreEdited, IsHeld, become, edited, edited_one, have_meant, is_meant, one_more}
+use Rattle.bz_canonical.specs.private.Edited.{AreEdited, IsHeld, become, becomes_by, edited, edited_one, have_meant, is_meant, keeping, one_more}
 use Rattle.bz_canonical.specs.private.Elements.{Element, IsElementRead, are_broken, element_line, element_lines, element_written, is_noted}
 use Rattle.bz_canonical.proofs.ElementLists.{broken_more, flat_one, longer, one_at_least, or_yes, passed_more, passed_none}
 use Rattle.bz_canonical.proofs.GroupSegments.{or_no}
@@ -39,24 +42,21 @@ lines_more front line xs ys x more is =
 
 -- what an element becomes
 
-stays_one : (home : Package) (edit : ListEdit) (e : Element) → false ≡ is_meant home edit e.token → edited_one home edit e ≡ e ∷ []
-stays_one home edit e told = ap (λ b. if b then become edit.new e else e ∷ []) (sym told)
+becomes_one : (home : Package) (edit : ListEdit) (e : Element) (meant : Bool) (is : Becomes) → meant ≡ is_meant home edit e.token → becomes_by edit meant ≡ is → edited_one home edit e ≡ become is e
+becomes_one home edit e meant is told by = ap (λ b. become (becomes_by edit b) e) (sym told) ∙ ap (λ (x : Becomes). become x e) by
 
-becomes_one : (home : Package) (edit : ListEdit) (e : Element) → true ≡ is_meant home edit e.token → edited_one home edit e ≡ become edit.new e
-becomes_one home edit e told = ap (λ b. if b then become edit.new e else e ∷ []) (sym told)
+gone_meant : (edit : ListEdit) (meant : Bool) → becomes_by edit meant ≡ Gone → meant ≡ true
+gone_meant edit true by = refl
+gone_meant edit false by = absurd cc
 
--- where none is meant, all stay
-pub stay_all : (home : Package) (edit : ListEdit) (es : List Element) → have_meant home edit es ≡ false → edited home edit es ≡ es
-stay_all home edit [] none = refl
-stay_all home edit (e ∷ es) none =
-    let both = or_neither (is_meant home edit e.token) (have_meant home edit es) none in
-    ap (λ (xs : List Element). xs ++ edited home edit es) (stays_one home edit e (sym both.0)) ∙ ap (λ (xs : List Element). e ∷ xs) (stay_all home edit es both.1)
+-- where they are kept, all stay
+pub keep_all : (home : Package) (sought : AttributeValues) (es : List Element) → edited home (keeping sought) es ≡ es
+keep_all home sought [] = refl
+keep_all home sought (e ∷ es) = λ i. by (is_meant home (keeping sought) e.token) i ++ keep_all home sought es i
   where
-    or_neither : (a b : Bool) → (a || b) ≡ false → (a ≡ false) × (b ≡ false)
-    or_neither true b none = absurd cc
-    or_neither false b none = (refl, none)
-
--- what is passed
+    by : (b : Bool) → become (becomes_by (keeping sought) b) e ≡ e ∷ []
+    by true = refl
+    by false = refl
 
 pub edited_none : (home : Package) (edit : ListEdit) (lines : Bool) (front buffer : List ℕ) (at : Pending) → at.from.now ≡ front ++ at.rest.now
     → AreEdited home edit lines (buffer ++ front) at.rest.now buffer (record { at = at; one = false; meant = false; left = false; broken = false })
@@ -71,13 +71,13 @@ edited_none home edit lines front buffer at is = record {
 }
 
 -- it goes
-pub edited_gone : (home : Package) (edit : ListEdit) (lines : Bool) (front inside old new : List ℕ) (p : Passed) (read : ReadElement) → AreEdited home edit lines front inside old p → IsElementRead lines p.one p.at.rest.now read
-    → true ≡ is_meant home edit read.string.token.now → edit.new ≡ None → ((part : List ℕ) → p.at.from.now ≡ part ++ p.at.rest.now → new ≡ old ++ part)
-    → AreEdited home edit lines front inside new (record { at = record { from = read.rest; rest = read.rest }; one = true; meant = true; left = p.left; broken = p.broken })
-edited_gone home edit lines front inside old new p read k e told none put =
+pub edited_gone : (home : Package) (edit : ListEdit) (lines : Bool) (front inside old new : List ℕ) (p : Passed) (read : ReadElement) (meant : Bool) → AreEdited home edit lines front inside old p → IsElementRead lines p.one p.at.rest.now read
+    → meant ≡ is_meant home edit read.string.token.now → becomes_by edit meant ≡ Gone → ((part : List ℕ) → p.at.from.now ≡ part ++ p.at.rest.now → new ≡ old ++ part)
+    → AreEdited home edit lines front inside new (record p { at = record { from = read.rest; rest = read.rest }; one = true; meant = true })
+edited_gone home edit lines front inside old new p read meant k e told by put =
     let es : List Element = k.passed.elements in
-    let is : true ≡ is_meant home edit e.element.token = told ∙ ap (is_meant home edit) (sym e.token_is) in
-    let same = gone_more home edit es e.element (becomes_one home edit e.element is ∙ ap (λ new. become new e.element) none) in
+    let is : meant ≡ is_meant home edit e.element.token = told ∙ ap (is_meant home edit) (sym e.token_is) in
+    let same = gone_more home edit es e.element (becomes_one home edit e.element meant Gone is by) in
     record {
       written = k.written ++ element_written read;
       broken = k.broken || (p.one || read.noted);
@@ -88,7 +88,7 @@ edited_gone home edit lines front inside old new p read k e told none put =
         all_is = ap (λ (xs : List Element). front ++ element_lines (respell String) xs) same ∙ k.held.all_is ∙ sym (put k.held.part k.held.front) ∙ sym (append-nil new);
         whole = λ empty. refl;
       };
-      meant_is = sym (or_yes p.meant true refl) ∙ meant_more home edit es e.element p.meant true k.meant_is is;
+      meant_is = sym (or_yes p.meant true refl) ∙ meant_more home edit es e.element p.meant true k.meant_is (sym (gone_meant edit meant by) ∙ is);
       left_is = k.left_is ∙ ap (λ (xs : List Element). nat_le 1 (length xs)) (sym same);
       broken_is = k.broken_is ∙ ap are_broken (sym same);
     }
@@ -115,11 +115,11 @@ edited_more home edit lines front inside old new line p read at meant k e x one 
     }
 
 -- it stays as it stands
-pub edited_as_is : (home : Package) (edit : ListEdit) (lines : Bool) (front inside old : List ℕ) (p : Passed) (read : ReadElement) → AreEdited home edit lines front inside old p → IsElementRead lines p.one p.at.rest.now read
-    → false ≡ is_meant home edit read.string.token.now → read.otherwise ≡ false → AreEdited home edit lines front inside old (one_more p (record { from = p.at.from; rest = read.rest }) false read.noted)
-edited_as_is home edit lines front inside old p read k e told plain =
-    let is : false ≡ is_meant home edit e.element.token = told ∙ ap (is_meant home edit) (sym e.token_is) in
-    edited_more home edit lines front inside old old (element_written read) p read p.at false k e e.element (stays_one home edit e.element is) e.noted_is e.spells is
+pub edited_as_is : (home : Package) (edit : ListEdit) (lines : Bool) (front inside old : List ℕ) (p : Passed) (read : ReadElement) (meant : Bool) → AreEdited home edit lines front inside old p → IsElementRead lines p.one p.at.rest.now read
+    → meant ≡ is_meant home edit read.string.token.now → becomes_by edit meant ≡ Kept → read.otherwise ≡ false → AreEdited home edit lines front inside old (one_more p (record { from = p.at.from; rest = read.rest }) meant read.noted)
+edited_as_is home edit lines front inside old p read meant k e told by plain =
+    let is : meant ≡ is_meant home edit e.element.token = told ∙ ap (is_meant home edit) (sym e.token_is) in
+    edited_more home edit lines front inside old old (element_written read) p read p.at meant k e e.element (becomes_one home edit e.element meant Kept is by) e.noted_is e.spells is
     (λ all h. pend_more p.at.from.now old all p.at.from.now p.at.rest.now (element_written read) read.rest.now h (e.same plain))
 
 -- a line is written after what was pending
@@ -132,24 +132,24 @@ held_put old put new line all at read pending new_is h = record {
 }
 
 -- it stays, otherwise than it stood
-pub edited_put : (home : Package) (edit : ListEdit) (lines : Bool) (front inside old put new : List ℕ) (p : Passed) (read : ReadElement) → AreEdited home edit lines front inside old p → IsElementRead lines p.one p.at.rest.now read
-    → false ≡ is_meant home edit read.string.token.now → ((part : List ℕ) → p.at.from.now ≡ part ++ p.at.rest.now → put ≡ old ++ part) → new ≡ put ++ element_written read
-    → AreEdited home edit lines front inside new (one_more p (record { from = read.rest; rest = read.rest }) false read.noted)
-edited_put home edit lines front inside old put new p read k e told pending new_is =
-    let is : false ≡ is_meant home edit e.element.token = told ∙ ap (is_meant home edit) (sym e.token_is) in
-    edited_more home edit lines front inside old new (element_written read) p read (record { from = read.rest; rest = read.rest }) false k e e.element (stays_one home edit e.element is) e.noted_is e.spells is
+pub edited_put : (home : Package) (edit : ListEdit) (lines : Bool) (front inside old put new : List ℕ) (p : Passed) (read : ReadElement) (meant : Bool) → AreEdited home edit lines front inside old p → IsElementRead lines p.one p.at.rest.now read
+    → meant ≡ is_meant home edit read.string.token.now → becomes_by edit meant ≡ Kept → ((part : List ℕ) → p.at.from.now ≡ part ++ p.at.rest.now → put ≡ old ++ part) → new ≡ put ++ element_written read
+    → AreEdited home edit lines front inside new (one_more p (record { from = read.rest; rest = read.rest }) meant read.noted)
+edited_put home edit lines front inside old put new p read meant k e told by pending new_is =
+    let is : meant ≡ is_meant home edit e.element.token = told ∙ ap (is_meant home edit) (sym e.token_is) in
+    edited_more home edit lines front inside old new (element_written read) p read (record { from = read.rest; rest = read.rest }) meant k e e.element (becomes_one home edit e.element meant Kept is by) e.noted_is e.spells is
     (λ all h. held_put old put new (element_written read) all p.at read pending new_is h)
 
 -- it becomes another
-pub edited_as : (home : Package) (edit : ListEdit) (lines : Bool) (front inside old put new literal : List ℕ) (p : Passed) (read : ReadElement) (other : NewString) → AreEdited home edit lines front inside old p → IsElementRead lines p.one p.at.rest.now read
-    → true ≡ is_meant home edit read.string.token.now → edit.new ≡ Some other → literal ≡ quoted other.value.now → ((part : List ℕ) → p.at.from.now ≡ part ++ p.at.rest.now → put ≡ old ++ part)
-    → new ≡ put ++ (read.front.now ++ (literal ++ read.back.now)) → AreEdited home edit lines front inside new (one_more p (record { from = read.rest; rest = read.rest }) true read.noted)
-edited_as home edit lines front inside old put new literal p read other k e told some quoted_is pending new_is =
-    let is : true ≡ is_meant home edit e.element.token = told ∙ ap (is_meant home edit) (sym e.token_is) in
+pub edited_as : (home : Package) (edit : ListEdit) (lines : Bool) (front inside old put new literal : List ℕ) (p : Passed) (read : ReadElement) (meant : Bool) (other : NewString) → AreEdited home edit lines front inside old p
+    → IsElementRead lines p.one p.at.rest.now read → meant ≡ is_meant home edit read.string.token.now → becomes_by edit meant ≡ Other other → literal ≡ quoted other.value.now → ((part : List ℕ) → p.at.from.now ≡ part ++ p.at.rest.now → put ≡ old ++ part)
+    → new ≡ put ++ (read.front.now ++ (literal ++ read.back.now)) → AreEdited home edit lines front inside new (one_more p (record { from = read.rest; rest = read.rest }) meant read.noted)
+edited_as home edit lines front inside old put new literal p read meant other k e told by quoted_is pending new_is =
+    let is : meant ≡ is_meant home edit e.element.token = told ∙ ap (is_meant home edit) (sym e.token_is) in
     let x : Element = record e.element { token = quoted other.value.now } in
     let C : List ℕ = bytes_of (comments 2 e.element.before) in
     let S : List ℕ = bytes_of (suffix_piece e.element.suffix) in
     let line : List ℕ = read.front.now ++ (literal ++ read.back.now) in
     let line_is : line ≡ element_line (respell String) x = (λ i. e.front_is i ++ (quoted_is i ++ e.back_is i)) ∙ append_assoc C (10 ∷ indent 2) (quoted other.value.now ++ (44 ∷ S)) in
-    edited_more home edit lines front inside old new line p read (record { from = read.rest; rest = read.rest }) true k e x (becomes_one home edit e.element is ∙ ap (λ new. become new e.element) some) e.noted_is line_is is
+    edited_more home edit lines front inside old new line p read (record { from = read.rest; rest = read.rest }) meant k e x (becomes_one home edit e.element meant (Other other) is by) e.noted_is line_is is
     (λ all h. held_put old put new line all p.at read pending new_is h)

@@ -1,5 +1,5 @@
 -- The lines of an argument whose value is one list of strings, of which some go or become another.
-use Rattle.std.proofs.Common.{◌≡◌, ◌≤◌, ◌<◌, ℕ, suc, ◌+◌, ◌-◌, length, take, drop, List, [], ◌∷◌, ◌++◌, Bool, true, false, ◌||◌, ◌&&◌, refl, sym, ap, ◌∙◌, arith, append_assoc, append-nil, subst}
+use Rattle.std.proofs.Common.{◌≡◌, ◌≤◌, ◌<◌, ℕ, suc, ◌+◌, ◌-◌, length, take, drop, List, [], ◌∷◌, ◌++◌, Bool, true, false, ◌||◌, ◌&&◌, not, refl, sym, ap, ◌∙◌, arith, append_assoc, append-nil, subst}
 use Rattle.std.proofs.Math.Seq.{take-append_seam, drop-append_seam}
 use Rattle.std.proofs.lemmas.Bool.{false≢true}
 use Rattle.std.proofs.lemmas.Bool.Decides.{nat_tests}
@@ -17,11 +17,10 @@ use Rattle.bz_layout.specs.declared.broken.Style.TheVariants.{Broken}
 use Rattle.bz_layout.specs.declared.spacing.Gap.TheVariants.{Closed}
 use Rattle.bz_label.specs.Labels.{Package}
 use Rattle.bz_canonical.specs.Canonical.{argument_lines}
-use Rattle.bz_rule.specs.declared.forms.ListValue.{ListValue}
 use Rattle.bz_canonical.specs.declared.edited.ListEdit.{ListEdit}
 use Rattle.bz_canonical.specs.declared.edited.PassedList.{PassedList}
 use Rattle.bz_canonical.specs.private.Added.{IsListAlone, have_word, is_word, list_arg}
-use Rattle.bz_canonical.specs.private.Edited.{AreEdited, AreElementsEdited, EndsList, IsListEdited, IsWritten, Stays, edited, have_meant, left_args}
+use Rattle.bz_canonical.specs.private.Edited.{AreEdited, AreElementsEdited, EndsList, IsListEdited, IsWritten, Stays, edited, have_meant, is_new, left_args}
 use Rattle.bz_canonical.specs.private.Arguments.{IsHeadRead}
 use Rattle.bz_canonical.specs.private.Pendings.{IsPending}
 use Rattle.bz_canonical.specs.private.Elements.{Element, IsLast, are_broken, element_line, element_lines, element_list, is_noted}
@@ -52,7 +51,7 @@ args_some notes word (e ∷ es) suffix some = refl
 abbrev pub front_of : List (List ℕ) → List ℕ → List ℕ
 front_of notes word = bytes_of (comments 1 notes) ++ (10 ∷ (indent 1 ++ (word ++ codes " = [")))
 
-list_bytes : (notes : List (List ℕ)) (word : List ℕ) (es : List Element) (suffix : Option (List ℕ)) (all : List ℕ) → bytes_of (item_pieces Broken 1 Closed (element_list es)) ≡ 91 ∷ all
+pub list_bytes : (notes : List (List ℕ)) (word : List ℕ) (es : List Element) (suffix : Option (List ℕ)) (all : List ℕ) → bytes_of (item_pieces Broken 1 Closed (element_list es)) ≡ 91 ∷ all
     → argument_lines (list_arg notes word es suffix ∷ []) ≡ (front_of notes word ++ all) ++ (44 ∷ bytes_of (suffix_piece suffix))
 list_bytes notes word es suffix all is =
     let C : List ℕ = bytes_of (comments 1 notes) in
@@ -63,20 +62,14 @@ list_bytes notes word es suffix all is =
     whole : (C A S : List ℕ) → C ++ (10 ∷ (indent 1 ++ (word ++ (codes " = " ++ ((91 ∷ A) ++ (44 ∷ S)))))) ≡ ((C ++ (10 ∷ (indent 1 ++ (word ++ codes " = [")))) ++ A) ++ (44 ∷ S)
     whole C A S = simp append_assoc
 
--- an edit by which elements go: those that equal its word are meant
-abbrev pub no_new : ListEdit → ListEdit
-no_new edit = record edit { new = None }
-
-abbrev pub sought : ListEdit → ListValue
-sought edit = record { attr = edit.attr; value = edit.word }
-
-pub have_is : (home : Package) (edit : ListEdit) (es : List Element) → have_meant home (no_new edit) es ≡ have_word home edit.word.now es
-have_is home edit [] = refl
-have_is home edit (e ∷ es) = λ i. by (is_word home edit.word.now e.token) i || have_is home edit es i
+-- where elements become no other string, those that equal one of the words are meant
+pub have_is : (home : Package) (edit : ListEdit) (es : List Element) → ((token : List ℕ) → is_new edit.becomes token ≡ false) → have_meant home edit es ≡ have_word home edit.words.now es
+have_is home edit [] plain = refl
+have_is home edit (e ∷ es) plain = λ i. by (is_word home edit.words.now e.token) (is_new edit.becomes e.token) (plain e.token) i || have_is home edit es plain i
   where
-    by : (b : Bool) → (b && true) ≡ b
-    by true = refl
-    by false = refl
+    by : (b new : Bool) → new ≡ false → (b && not new) ≡ b
+    by true new off = ap not off
+    by false new off = refl
 
 -- the argument of these lines
 
@@ -96,23 +89,9 @@ list_stays depth home edit text old buffer list l none = record {
   none = sym (edited_of depth home edit text old buffer list l).meant_is ∙ none;
 }
 
--- by what was read of the lines
-abbrev pub list_edited : (depth : ℕ) (home : Package) (edit : ListEdit) (text old buffer attr from rest : List ℕ) (list : PassedList) → from ≡ text → attr ≡ edit.attr.now → 1 < depth → IsHeadRead attr from (91 ∷ rest) true
-    → AreElementsEdited home edit from rest old buffer list → IsLast list.end.now → IsListEdited depth home edit text old buffer list
-list_edited depth home edit text old buffer attr from rest list from_is attr_is deep head all last = record {
-  inside = rest;
-  deep = deep;
-  head = subst (λ t. IsHeadRead edit.attr.now t (91 ∷ rest) true) from_is (subst (λ a. IsHeadRead a from (91 ∷ rest) true) attr_is head);
-  all = subst (λ t. AreElementsEdited home edit t rest old buffer list) from_is all;
-  last = last;
-}
-
 -- where its elements begin
-pub begins_at : (depth : ℕ) (home : Package) (edit : ListEdit) (text old buffer from rest : List ℕ) (list : PassedList) (start : ℕ) → from ≡ text → (l : IsListEdited depth home edit text old buffer list) → l.inside ≡ rest
-    → ((t all : List ℕ) → IsPending t old all from rest → start ≡ length all) → start ≡ length (old ++ front_of l.head.notes l.head.word)
-begins_at depth home edit text old buffer from rest list start from_is l inside_is told =
-    let F : List ℕ = front_of l.head.notes l.head.word in
-    told from (old ++ F) (record { part = F; front = from_is ∙ head_front edit.attr.now text l.inside l.head ∙ ap (λ (t : List ℕ). F ++ t) inside_is; all_is = refl; whole = λ none. refl })
+pub begins_at : (old from rest : List ℕ) (start : ℕ) → ((text all : List ℕ) → IsPending text old all from rest → start ≡ length all) → (front : List ℕ) → from ≡ front ++ rest → start ≡ length (old ++ front)
+begins_at old from rest start told front is = told from (old ++ front) (record { part = front; front = is; all_is = refl; whole = λ none. refl })
 
 -- what was pending is written
 pub put_held : (depth : ℕ) (home : Package) (edit : ListEdit) (text old buffer put : List ℕ) (list : PassedList) → (l : IsListEdited depth home edit text old buffer list) → ((part : List ℕ) → list.passed.at.from.now ≡ part ++ list.passed.at.rest.now → put ≡ buffer ++ part)
@@ -121,15 +100,15 @@ put_held depth home edit text old buffer put list l pending =
     let all = edited_of depth home edit text old buffer list l in
     pending all.held.part all.held.front ∙ sym all.held.all_is
 
-pub list_written : (depth : ℕ) (home : Package) (edit : ListEdit) (text old buffer put new : List ℕ) (list : PassedList) (start : ℕ) → (l : IsListEdited depth home edit text old buffer list) → list.passed.meant ≡ true → list.passed.left ≡ true
-    → ((part : List ℕ) → list.passed.at.from.now ≡ part ++ list.passed.at.rest.now → put ≡ buffer ++ part) → start ≡ length (old ++ front_of l.head.notes l.head.word) → EndsList list start put new → IsWritten depth home edit text old new
-list_written depth home edit text old buffer put new list start l meant some pending start_is ends =
+pub list_written : (depth : ℕ) (home : Package) (edit : ListEdit) (text old buffer put new : List ℕ) (list : PassedList) → (l : IsListEdited depth home edit text old buffer list) → list.passed.meant ≡ true → list.passed.left ≡ true
+    → ((part : List ℕ) → list.passed.at.from.now ≡ part ++ list.passed.at.rest.now → put ≡ buffer ++ part) → EndsList list put new → IsWritten depth home edit text old new
+list_written depth home edit text old buffer put new list l meant some pending ends =
     let a = list_read depth home edit text old buffer list l in
     let all = edited_of depth home edit text old buffer list l in
     let left : List Element = edited home edit a.elements in
     let filled : is_empty left ≡ false = some_left left (sym some ∙ all.left_is) in
     let F : List ℕ = front_of a.notes a.name in
-    let e = ends (old ++ F) left (sym start_is) filled all.broken_is (put_held depth home edit text old buffer put list l pending) in
+    let e = ends (old ++ F) left (sym (l.all.starts F (head_front edit.attr.now text l.inside l.head))) filled all.broken_is (put_held depth home edit text old buffer put list l pending) in
     record {
       list = a;
       some = sym all.meant_is ∙ meant;
@@ -178,8 +157,8 @@ in_place w front token pasted put new start len start_is len_is is pasted_is put
 
 -- what follows the elements
 
-pub ends_broken : (list : PassedList) (start : ℕ) (old closes new : List ℕ) → list.passed.broken ≡ true → closes ≡ old ++ closed → new ≡ closes ++ list.end.now → EndsList list start old new
-ends_broken list start old closes new broken closes_is new_is = λ front es start_is some broken_is old_is. (
+pub ends_broken : (list : PassedList) (old closes new : List ℕ) → list.passed.broken ≡ true → closes ≡ old ++ closed → new ≡ closes ++ list.end.now → EndsList list old new
+ends_broken list old closes new broken closes_is new_is = λ front es start_is some broken_is old_is. (
   element_lines (respell String) es ++ closed,
   written_broken es (sym broken_is ∙ broken),
   new_is ∙ ap (λ (t : List ℕ). t ++ list.end.now) (closes_is ∙ ap (λ (t : List ℕ). t ++ closed) old_is) ∙ joined front (element_lines (respell String) es) closed list.end.now,
@@ -189,11 +168,11 @@ ends_broken list start old closes new broken closes_is new_is = λ front es star
     joined F L C E = simp append_assoc
 
 -- one that is not on lines is alone, and has no comment
-pub ends_in_place : (list : PassedList) (start : ℕ) (old closes new : List ℕ) → list.passed.broken ≡ false
-    → ((front token : List ℕ) → length front ≡ start → old ≡ front ++ (10 ∷ (indent 2 ++ (token ++ 44 ∷ []))) → closes ≡ front ++ (token ++ 93 ∷ [])) → new ≡ closes ++ list.end.now → EndsList list start old new
-ends_in_place list start old closes new broken closes_is new_is = λ front es start_is some broken_is old_is. by front es start_is some (sym broken_is ∙ broken) old_is
+pub ends_in_place : (list : PassedList) (old closes new : List ℕ) → list.passed.broken ≡ false
+    → ((front token : List ℕ) → length front ≡ list.start → old ≡ front ++ (10 ∷ (indent 2 ++ (token ++ 44 ∷ []))) → closes ≡ front ++ (token ++ 93 ∷ [])) → new ≡ closes ++ list.end.now → EndsList list old new
+ends_in_place list old closes new broken closes_is new_is = λ front es start_is some broken_is old_is. by front es start_is some (sym broken_is ∙ broken) old_is
   where
-    by : (front : List ℕ) (es : List Element) → length front ≡ start → is_empty es ≡ false → are_broken es ≡ false → old ≡ front ++ element_lines (respell String) es
+    by : (front : List ℕ) (es : List Element) → length front ≡ list.start → is_empty es ≡ false → are_broken es ≡ false → old ≡ front ++ element_lines (respell String) es
         → (all : List ℕ) × (bytes_of (item_pieces Broken 1 Closed (element_list es)) ≡ 91 ∷ all) × (new ≡ front ++ (all ++ list.end.now))
     by front [] start_is some alone old_is = absurd (false≢true (sym some))
     by front (e ∷ x ∷ es) start_is some alone old_is = absurd (false≢true (sym alone ∙ or_yes (list_any is_noted (e ∷ x ∷ es)) (nat_le 2 (length (e ∷ x ∷ es))) (two_first (length es))))

@@ -25,6 +25,7 @@ pub mod RuleSpans
 pub mod ListLines
 pub mod EditedElements
 pub mod EditedLines
+pub mod NewValues
 pub mod AddedLines
 pub mod RemovedLines
 pub mod ReplacedLines

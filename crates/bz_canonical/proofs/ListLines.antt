@@ -15,13 +15,14 @@ use Rattle.bz_layout_laws.specs.FreeLayout.{Choice, broken_by, free, own, text_b
 use Rattle.bz_layout_laws.specs.Lineless.{lineless}
 use Rattle.bz_label.specs.Labels.{Package}
 use Rattle.bz_label.specs.declared.arguments.Chosen.TheVariants.{Values}
-use Rattle.bz_attribute.specs.Effects.{chooses, is_chosen}
+use Rattle.bz_attribute.specs.Effects.{is_chosen}
+use Rattle.bz_attribute.specs.Reports.{chooses}
 use Rattle.bz_attribute.specs.Rules.{first_named, rule_of}
 use Rattle.bz_attribute.proofs.Views.{segments_of}
-use Rattle.bz_canonical.specs.Added.{LacksInLines}
-use Rattle.bz_rule.specs.declared.forms.ListValue.{ListValue}
+use Rattle.bz_canonical.specs.Added.{AreInLines}
+use Rattle.bz_rule.specs.declared.forms.AttributeValues.{AttributeValues}
 use Rattle.bz_canonical.specs.Canonical.{AreReadAlone, read_alone, rule_args, small_rule, small_text}
-use Rattle.bz_canonical.specs.private.Added.{AreOthers, IsListAlone, have_word, is_word, list_arg}
+use Rattle.bz_canonical.specs.private.Added.{AreSought, IsListAlone, have_word, is_word, list_arg}
 use Rattle.bz_canonical.specs.private.Elements.{AreElementsRead, Element, IsLast, closing, element_segs}
 use Rattle.bz_canonical.specs.private.Arguments.{IsHeadRead}
 use Rattle.bz_canonical.specs.private.Placed.{IsPlaced, Placed, placed_lines}
@@ -70,26 +71,25 @@ list_alone depth attr text inside end w one b deep h t last =
       same = λ args reads. read_same d text args p (list_is_placed d h.notes h.word t.breaks t.elements last.suffix less h.are h.is t.are t.stands last.is) lines (subst (λ n. AreReadAlone n text args) (sym deeper) reads);
     }
 
--- which of its elements equal a value
+-- which of its elements equal values
 
 pub first_is : (attr word : List ℕ) (notes : List (List ℕ)) (es : List Element) (suffix : Option (List ℕ)) → bytes_eq attr word ≡ true → first_named attr (list_arg notes word es suffix ∷ []) ≡ Some (list_arg notes word es suffix)
 first_is attr word notes es suffix named = rw named refl
 
-pub chosen : (home : Package) (value : List ℕ) (es : List Element) → list_any (is_chosen home (Values (value ∷ []))) (segments (element_segs es)) ≡ have_word home value es
-chosen home value [] = refl
-chosen home value (e ∷ es) = λ i. or_no (is_word home value e.token) i || chosen home value es i
+pub chosen : (home : Package) (values : List (List ℕ)) (es : List Element) → list_any (is_chosen home (Values values)) (segments (element_segs es)) ≡ have_word home values es
+chosen home values [] = refl
+chosen home values (e ∷ es) = ap (λ b. is_word home values e.token || b) (chosen home values es)
 
-pub chooses_is : (home : Package) (attr value word : List ℕ) (notes : List (List ℕ)) (es : List Element) (suffix : Option (List ℕ)) → bytes_eq attr word ≡ true
-    → map_or false (chooses home (Values (value ∷ []))) (first_named attr (list_arg notes word es suffix ∷ [])) ≡ have_word home value es
-chooses_is home attr value word notes es suffix named =
-    ap (map_or false (chooses home (Values (value ∷ [])))) (first_is attr word notes es suffix named)
-    ∙ or_no (list_any (is_chosen home (Values (value ∷ []))) (segments (element_segs es))) ∙ chosen home value es
+pub chooses_is : (home : Package) (attr word : List ℕ) (values : List (List ℕ)) (notes : List (List ℕ)) (es : List Element) (suffix : Option (List ℕ)) → bytes_eq attr word ≡ true
+    → map_or false (chooses home (Values values)) (first_named attr (list_arg notes word es suffix ∷ [])) ≡ have_word home values es
+chooses_is home attr word values notes es suffix named =
+    ap (map_or false (chooses home (Values values))) (first_is attr word notes es suffix named) ∙ or_no (list_any (is_chosen home (Values values)) (segments (element_segs es))) ∙ chosen home values es
 
-pub value_lacks : (depth : ℕ) (home : Package) (sought : ListValue) (text inside rest end : List ℕ) (lines one : Bool) → 1 < depth → IsHeadRead sought.attr.now text (91 ∷ inside) true → AreOthers home sought.value.now lines one inside rest
-    → rest ≡ closing lines ++ end → IsLast end → LacksInLines (read_alone depth home text) sought
-value_lacks depth home sought text inside rest end lines one deep head o ends last =
+pub sought_lines : (depth : ℕ) (home : Package) (sought : AttributeValues) (text inside rest end : List ℕ) (lines one there : Bool) → 1 < depth → IsHeadRead sought.attr.now text (91 ∷ inside) true → AreSought home sought.values.now lines one inside rest there
+    → rest ≡ closing lines ++ end → IsLast end → AreInLines (read_alone depth home text) sought there
+sought_lines depth home sought text inside rest end lines one there deep head o ends last =
     let attr = sought.attr.now in
-    let value = sought.value.now in
+    let values = sought.values.now in
     let read = elements_read lines one o.broken inside rest end o.written o.passed ends in
     let a = list_alone depth attr text inside end o.written one o.broken deep head read last in
-    λ args reads. ap (λ xs. map_or false (chooses home (Values (value ∷ []))) (first_named attr xs)) (a.same args reads) ∙ chooses_is home attr value a.name a.notes a.elements a.suffix a.named ∙ o.none
+    λ args reads. ap (λ xs. map_or false (chooses home (Values values)) (first_named attr xs)) (a.same args reads) ∙ chooses_is home attr a.name values a.notes a.elements a.suffix a.named ∙ sym o.there_is

@@ -4,7 +4,8 @@ use Rattle.std.specs.Prelude.{◌≡◌, ℕ, List, ◌++◌, true, false}
 use Rattle.bz_tree.specs.Tree.{Segment}
 use Rattle.bz_label.specs.Labels.{Package}
 use Rattle.bz_label.specs.declared.arguments.Attributes.TheVariants.{Named}
-use Rattle.bz_rule.specs.Replace.{replace, replaces}
+use Rattle.bz_rule.specs.Replace.{replace}
+use Rattle.bz_rule.specs.Reports.{replaces}
 use Rattle.bz_canonical.specs.Canonical.{AloneLines, AreReadAlone, argument_lines}
 use Rattle.bz_canonical.specs.declared.edited.EditedList.{EditedList}
 use Rattle.bz_canonical.specs.declared.edited.EditedList.TheVariants.{Unchanged, Written}

@@ -13,7 +13,7 @@ beside_text (Some comment) = codes "  " ++ comment
 abbrev pub lines_around : List ℕ → Option (List ℕ) → List ℕ
 lines_around text suffix = codes "\n    " ++ (text ++ (codes "," ++ beside_text suffix))
 
--- the same as whole lines, with the newline that ends them in place of the one before them
+-- what is written of an argument as whole lines, with the newline that ends them in place of the one before them
 abbrev pub own_lines : List ℕ → Option (List ℕ) → List ℕ
 own_lines text suffix = codes "    " ++ (text ++ (codes "," ++ (beside_text suffix ++ codes "\n")))
 

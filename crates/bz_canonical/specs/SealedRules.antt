@@ -41,7 +41,7 @@ abbrev pub ends_run : Bool → List Bool → Bool
 ends_run b [] = true
 ends_run b (next ∷ asked) = b || next
 
--- the same as below, after arguments that are sealed with the next
+-- arguments of which those are sealed that are not asked for, after a run that is sealed with the next of them
 abbrev pub sealed_from : List Segment → List Bool → List Segment → List Segment
 sealed_from run [] args = []
 sealed_from run (b ∷ asked) [] = []
@@ -73,7 +73,7 @@ pub data IsLevel : ℕ → ℕ → ℕ → Type 0 where
 abbrev pub back_parts : List (List ℕ) → Option (List ℕ) → List RowPart
 back_parts end suffix = map above end ++ (closing false ∷ beside_part suffix)
 
--- the same rule, of which the arguments after the name are sealed that are not asked for
+-- a rule of which the arguments after the name are sealed that are not asked for
 abbrev pub sealed_rule : List Bool → NamedRule → NamedRule
 sealed_rule asked r = record r { args = sealed_args asked r.args }
 

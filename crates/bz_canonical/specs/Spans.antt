@@ -91,7 +91,7 @@ pub record IsSpanned (names : List (List ℕ)) (r : NamedRule) (stands : List (L
   pub written_is : written ≡ text_of r
   pub are : AreSpans names (length (front_text r.notes r.kind)) (length (front_text r.notes r.kind)) (name_argument r.name ∷ r.args) stands spans
 
--- The same of a rule in a chunk. The lines of any arguments are read as these alone.
+-- A rule of a chunk is written so, and its arguments have these spans. The lines of any arguments are read as these alone.
 pub record IsSpannedIn (depth : ℕ) (names : List (List ℕ)) (r : NamedRule) (stands : List (List ℕ)) (chunk written : List ℕ) (spans : List ArgumentSpan) : Type 0 where
   pub spanned : IsSpanned names r stands written spans
   pub back : List ℕ

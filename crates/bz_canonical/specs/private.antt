@@ -12,4 +12,5 @@ pub mod Arguments
 pub mod Rules
 pub mod Added
 pub mod Edited
+pub mod NewValues
 pub mod Noted

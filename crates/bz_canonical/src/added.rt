@@ -1,130 +1,206 @@
-//! A value that is looked for in an argument whose value is one list of strings, or added to it, by the lines of the
+//! Values that are added to an argument whose value is one list of strings, by the lines of the argument, or in a new
 //! argument.
 
-ghost use Rattle.std.specs.Prelude.{◌≡◌, ◌<◌, ◌∷◌, ◌++◌, IfOk, IfSome, IsTrue, OnOk, true};
-ghost use Rattle.bz_canonical.specs.Added.{AddsToLines, LacksInLines};
-ghost use Rattle.bz_canonical.specs.Canonical.{read_alone};
-ghost use Rattle.bz_canonical.specs.private.Added.{is_word, last_line};
-ghost use Rattle.bz_canonical.specs.private.Arguments.{IsHeadRead};
+ghost use Rattle.std.specs.Prelude.{◌≡◌, ◌++◌, ◌∷◌, [], List, IfOk, IfSome, IsTrue, OnOk};
+ghost use Rattle.bz_tree.specs.Tree.{Segment};
+ghost use Rattle.bz_label.specs.Values.{quoted};
+ghost use Rattle.bz_layout.specs.Pieces.{indent};
+ghost use Rattle.bz_rule.specs.Add.{add};
+ghost use Rattle.bz_rule.specs.AddByValue.{is_fresh};
+ghost use Rattle.bz_canonical.specs.Added.{AddsToLines};
+ghost use Rattle.bz_canonical.specs.Canonical.{argument_lines, read_alone};
+ghost use Rattle.bz_canonical.specs.private.NewValues.{ArePut, AreSearched, PutsAfter, stands};
 
-use crate::arguments::read_argument_name;
-use crate::edited::{EditedList, ListEdit, put_list_edited, put_pending};
-use crate::front::{after, are_same};
-use crate::lists::{after_elements, is_last, is_on_lines, read_element};
-use bz_attribute::equals::text_equals;
-use bz_attribute::{Env, literal_apart};
-use bz_label::{Package, quote};
+use crate::Known;
+use crate::arguments::Pending;
+use crate::edited::{
+    Becomes, EditedList, ListEdit, Passed, PassedList, end_list, put_list_edited, put_pending,
+};
+use crate::found_value::{are_in, is_word};
+use crate::value::either;
+use bz_attribute::Env;
+use bz_label::{Text, quote};
 use bz_memory::{NoMemory, extend_from_slice, push};
-use bz_rule::forms::ListValue;
-use bz_token::check_utf8;
-use std::alloc::Global;
-
-// The argument is in two brackets, its own and the rule's.
-const BRACKETS: u8 = 2;
+use bz_rule::forms::AttributeValues;
+use std::slice::from_ref;
 
 /// What `add` makes of the argument that has these lines, where its value is one list of strings (`execute_on_list` of
-/// bz_engine asks). `Unchanged`: an element equals the value. `Written`: the value is an element more, and the lines are
-/// in the buffer, after its bytes. None: it may be no such list. Without `Written` nothing is said of the buffer's
-/// bytes. Err: memory is wanting.
+/// bz_engine asks). `Unchanged`: of each value an element equals it. `Written`: the other values are elements more, and
+/// the lines are in the buffer, after its bytes. None: it may be no such list. Without `Written` nothing is said of the
+/// buffer's bytes. Err: memory is wanting.
 pub fn put_added(
     env: Env<'_>,
     lines: &str,
-    new: ListValue<'_>,
+    new: AttributeValues<'_>,
     max_depth: u8,
     written: &mut Vec<u8>,
 ) -> Result<Option<EditedList>, NoMemory>
     ensures { IfOk result (λ known. IfSome known (AddsToLines (read_alone max_depth env.entry.home.now lines.now)
         new.entry written.old.items written.new.items)) }
 {
-    let sought = ListEdit {
+    let edit = ListEdit {
         attr: new.attr,
-        word: new.value,
-        new: None,
+        words: new.values,
+        becomes: Becomes::Kept,
     };
-    let Some(list) = put_list_edited(env.home, lines, sought, max_depth, written)? else {
+    let Some(list) = put_list_edited(env.home, lines, edit, max_depth, written)? else {
         return Ok(None);
     };
-    if list.passed.meant {
+    let absent = NewValues {
+        env,
+        added: new,
+        among: None,
+    };
+    if !list.passed.meant {
+        return absent.put_after(list, written);
+    }
+    if let [_] = new.values {
         return Ok(Some(EditedList::Unchanged));
     }
-    if !put_pending(list.passed.at, written)? {
-        return Ok(None);
-    }
-    put_last(env.alloc, new.value, list.passed.one, written)?;
-    extend_from_slice(written, list.end)?;
-    Ok(Some(EditedList::Written))
+    let among = Some(ListLines { lines, max_depth });
+    NewValues { among, ..absent }.put_after(list, written)
 }
 
-/// The value of the argument that has these lines is one list of strings, none of which equals the value
-/// (`execute_on_list` of bz_engine asks, for `remove` and `replace`). False: it may be so or not.
-pub fn lacks(home: &Package, lines: &str, sought: ListValue<'_>, max_depth: u8) -> bool
-    ensures { IsTrue result → LacksInLines (read_alone max_depth home.now lines.now) sought.entry }
+/// Writes the argument that `add` puts into a rule that has none of its name, after the buffer's bytes. False: there are
+/// no values. Without true nothing is said of the buffer's bytes.
+pub fn put_new_list(
+    env: Env<'_>,
+    new: AttributeValues<'_>,
+    written: &mut Vec<u8>,
+) -> Result<bool, NoMemory>
+    ensures { IfOk result (λ put. IsTrue put → written.new.items ≡ written.old.items
+        ++ argument_lines (add env.entry.home.now new.entry.attr.now new.entry.values.now [])) }
 {
-    let Some(inside) = list_of(lines.as_bytes(), sought.attr.as_bytes(), max_depth) else {
-        return false;
+    extend_from_slice(written, b"\n    ")?;
+    extend_from_slice(written, new.attr.as_bytes())?;
+    extend_from_slice(written, b" = [")?;
+    let start = written.len();
+    let end = b",".as_slice();
+    let at = Pending {
+        from: end,
+        rest: end,
     };
-    let on_lines = is_on_lines(inside);
-    let mut rest = inside;
-    let mut one = false;
-    for _ in 0..inside.len() {
-        if let Some(end) = after_elements(rest, on_lines) {
-            return is_last(end);
-        }
-        let Some(next) = read_element(rest, on_lines, one) else {
-            return false;
-        };
-        let Some(equal) = is_value(home, next.string.token, sought.value) else {
-            return false;
-        };
-        if equal {
-            return false;
-        }
-        rest = next.rest;
-        one = true;
+    let list = PassedList {
+        passed: Passed::none(at),
+        end,
+        start,
+    };
+    let absent = NewValues {
+        env,
+        added: new,
+        among: None,
+    };
+    let Some(passed) = absent.put_missing(list.passed, written)? else {
+        return Ok(false);
+    };
+    if !passed.meant {
+        return Ok(false);
     }
-    false
+    let ended = end_list(PassedList { passed, ..list }, written)?;
+    Ok(ended)
 }
 
-/// What follows the bracket of the list that is the value of the argument here.
-pub(crate) fn list_of<'t>(text: &'t [u8], attr: &[u8], max_depth: u8) -> Option<&'t [u8]>
-    ensures deep { IfSome result (λ inside. 1 < max_depth) }
-    ensures head { IfSome result (λ inside. IsHeadRead attr.now text.now (91 ∷ inside.now) true) }
-{
-    if max_depth < BRACKETS {
-        return None;
-    }
-    let read = read_argument_name(text)?;
-    if !are_same(attr, read.name) {
-        return None;
-    }
-    let inside = after(read.value, b'[')?;
-    Some(inside)
+/// The lines of an argument whose value is one list of strings.
+#[derive(Clone, Copy)]
+pub(crate) struct ListLines<'t> {
+    lines: &'t str,
+    max_depth: u8,
 }
 
-/// The string equals the value. None: it is not known.
+/// Values that are put after the elements of a list.
+#[derive(Clone, Copy)]
+struct NewValues<'h, 'c, 't> {
+    env: Env<'h>,
+    added: AttributeValues<'c>,
+    /// The argument, where an element may equal a value. Without it none does.
+    among: Option<ListLines<'t>>,
+}
+
+impl NewValues<'_, '_, '_> {
+    /// Writes the values that are missing, after the elements of the list, and what follows these.
+    #[inline(always)]
+    fn put_after(self, list: PassedList<'_>, written: &mut Vec<u8>) -> Known<EditedList>
+        ensures { IfOk result (λ known. IfSome known
+            (PutsAfter self.entry list.entry written.old.items written.new.items)) }
+    {
+        if !put_pending(list.passed.at, written)? {
+            return Ok(None);
+        }
+        let Some(passed) = self.put_missing(list.passed, written)? else {
+            return Ok(None);
+        };
+        if !passed.meant {
+            return Ok(Some(EditedList::Unchanged));
+        }
+        if !end_list(PassedList { passed, ..list }, written)? {
+            return Ok(None);
+        }
+        Ok(Some(EditedList::Written))
+    }
+
+    /// Writes the values that are missing, each on a line of its own.
+    #[inline(always)]
+    fn put_missing<'t>(self, from: Passed<'t>, written: &mut Vec<u8>) -> Known<Passed<'t>>
+        ensures { IfOk result (λ known. IfSome known
+            (ArePut self.entry self.entry.added.values.now from.entry written.old.items written.new.items)) }
+    {
+        let values = self.added.values;
+        let mut passed = Passed {
+            meant: false,
+            ..from
+        };
+        for i in 0..values.len() {
+            let value = &values[i];
+            let literal = quote(self.env.alloc, value.as_str())?;
+            let Some(missing) = self.is_missing(value, literal.as_str(), &values[..i]) else {
+                return Ok(None);
+            };
+            if missing {
+                put_line(literal.as_bytes(), written)?;
+                passed = passed.with_one(passed.at, true, false);
+            }
+        }
+        Ok(Some(passed))
+    }
+
+    /// No element equals the value that has this literal, and none of the values before it does. None: it is not known.
+    #[inline(always)]
+    fn is_missing(self, value: &Text, literal: &str, earlier: &[Text]) -> Option<bool>
+        ensures { IfSome result (λ missing. literal.now ≡ quoted value.now
+            → (lists : List (List Segment)) → AreSearched self.entry.added.attr.now self.entry.among lists
+            → missing ≡ is_fresh self.entry.env.home.now lists earlier.now value.now) }
+    {
+        let same = is_word(self.env.home, literal.as_bytes(), earlier)?;
+        let there = self.is_there(value)?;
+        Some(!either(there, same))
+    }
+
+    /// An element equals the value. None: it is not known.
+    #[inline(always)]
+    fn is_there(self, value: &Text) -> Option<bool>
+        ensures { IfSome result (λ there. (lists : List (List Segment))
+            → AreSearched self.entry.added.attr.now self.entry.among lists
+            → there ≡ stands self.entry.env.home.now lists value.now) }
+    {
+        let Some(among) = self.among else {
+            return Some(false);
+        };
+        let sought = AttributeValues {
+            attr: self.added.attr,
+            values: from_ref(value),
+        };
+        let lines = among.lines;
+        let there = are_in(self.env.home, lines, sought, among.max_depth, true)?;
+        Some(there)
+    }
+}
+
+/// Writes a new element on a line of its own.
 #[inline(always)]
-pub(crate) fn is_value(home: &Package, token: &[u8], value: &str) -> Option<bool>
-    ensures { IfSome result (λ equal. equal ≡ is_word home.now value.now token.now) }
+fn put_line(literal: &[u8], written: &mut Vec<u8>) -> Result<(), NoMemory>
+    ensures { OnOk result (written.new.items ≡ written.old.items ++ (10 ∷ (indent 2 ++ (literal.now ++ 44 ∷ [])))) }
 {
-    if literal_apart(token, value.as_bytes()) {
-        return Some(false);
-    }
-    let Ok(literal) = check_utf8(token) else {
-        return None;
-    };
-    Some(text_equals(home, literal, value))
-}
-
-/// The value as the last element of a list, and the bracket. `one`: there are others, and it stands on lines.
-fn put_last(alloc: Global, value: &str, one: bool, written: &mut Vec<u8>) -> Result<(), NoMemory>
-    ensures { OnOk result (written.new.items ≡ written.old.items ++ last_line one value.now) }
-{
-    let literal = quote(alloc, value)?;
-    if !one {
-        extend_from_slice(written, literal.as_bytes())?;
-        return push(written, b']');
-    }
     extend_from_slice(written, b"\n        ".as_slice())?;
-    extend_from_slice(written, literal.as_bytes())?;
-    extend_from_slice(written, b",\n    ]".as_slice())
+    extend_from_slice(written, literal)?;
+    push(written, b',')
 }

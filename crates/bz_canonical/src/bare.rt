@@ -25,7 +25,8 @@ pub(crate) struct BareStatement<'t> {
 #[inline(always)]
 pub(crate) fn read_bare_statement(text: &[u8], max_depth: u8) -> Option<BareStatement<'_>>
     requires { max_depth < 254 }
-    ensures { IfSome result (λ read. IsBareFront max_depth read.class (option_map (λ name. name.now) read.name)
+    ensures { IfSome result (λ read. IsBareFront max_depth read.class
+        (option_map (λ name. name.now) read.name)
         (option_map (λ kind. kind.now) read.kind) text.now read.rest.now) }
 {
     if max_depth == 0 {

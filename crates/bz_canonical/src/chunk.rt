@@ -96,7 +96,7 @@ pub fn read_canonical<'t, R: AsksOfRules>(
     read_rule_chunk(rule, left, max_depth, written)
 }
 
-/// The same of what does not begin as a rule whose name is on a line of its own, where it stands as it would be written.
+/// The chunk of what does not begin as a rule whose name is on a line of its own, where it stands as it would be written.
 #[inline(never)]
 fn read_other_chunk<'t>(text: &'t str, start: &'t [u8], max_depth: u8) -> Option<CanonicalChunk<'t>>
     requires depth { max_depth < 254 }

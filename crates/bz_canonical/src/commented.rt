@@ -22,7 +22,8 @@ pub struct CommentPlace<'t> {
 /// Where a comment line goes that is put above the argument of this place in what is written of a rule: it is the last
 /// above it (`put_comment` of bz_engine asks). None: there is no argument.
 pub fn comment_place<'t>(written: &'t str, place: ArgumentPlace<'_>) -> Option<CommentPlace<'t>>
-    ensures { IfSome result (λ found. (depth : ℕ) (attr : List ℕ) (s : Statement) → layout_text s ≡ written.now
+    ensures { IfSome result (λ found. (depth : ℕ) (attr : List ℕ) (s : Statement)
+        → layout_text s ≡ written.now
         → HasPlace depth attr s (between place.entry) → TakesComment attr s found.above.now found.below.now) }
 {
     if place.lines.is_empty() {
@@ -39,7 +40,8 @@ pub fn comment_place<'t>(written: &'t str, place: ArgumentPlace<'_>) -> Option<C
 
 /// What follows the indent of the line here of a call, where no comment begins.
 fn after_begun_line(text: &[u8]) -> Option<&[u8]>
-    ensures { IfSome result (λ inner. (first : ℕ) × (rest : List ℕ) × (text.now ≡ 10 ∷ (indent 1 ++ inner.now))
+    ensures { IfSome result (λ inner. (first : ℕ) × (rest : List ℕ)
+        × (text.now ≡ 10 ∷ (indent 1 ++ inner.now))
         × (inner.now ≡ first ∷ rest) × ((first == 35) ≡ false)) }
 {
     let inner = after_line(text, 1)?;

@@ -32,8 +32,10 @@ pub struct FoundRule<'a> {
 /// The kind of the rule of this chunk, whose arguments have these spans. It stands before the bracket, after the comments
 /// above the rule.
 pub fn kind_of<'a>(chunk: &'a str, spans: &[ArgumentSpan]) -> Option<&'a str>
-    ensures { IfSome result (λ kind. (depth : ℕ) (names : List (List ℕ)) (r : NamedRule) (stands : List (List ℕ))
-        (written : List ℕ) → IsSpannedIn depth names r stands chunk.now written spans.now → kind.now ≡ r.kind) }
+    ensures { IfSome result (λ kind. (depth : ℕ) (names : List (List ℕ)) (r : NamedRule)
+        (stands : List (List ℕ))
+        (written : List ℕ) → IsSpannedIn depth names r stands chunk.now written spans.now
+        → kind.now ≡ r.kind) }
 {
     let [name, ..] = spans else {
         return None;
@@ -64,10 +66,12 @@ fn read_asked<'a>(
     spans: &[ArgumentSpan],
     small: &'a mut String,
 ) -> Result<Option<Row<'a>>, NoMemory>
-    ensures { IfOk result (λ known. IfSome known (λ row. (names : List (List ℕ)) (from start : ℕ) (args : List Segment)
+    ensures { IfOk result (λ known. IfSome known
+        (λ row. (names : List (List ℕ)) (from start : ℕ) (args : List Segment)
         (stands : List (List ℕ)) (after : List ℕ) → AreSpans names from start args stands spans.now
         → drop from chunk.now ≡ concat stands ++ after
-        → AreReadAlone room.entry.max_depth (concat (kept (are_asked spans.now) stands)) (kept (are_asked spans.now) args)
+        → AreReadAlone room.entry.max_depth (concat (kept (are_asked spans.now) stands))
+        (kept (are_asked spans.now) args)
         → map part_view row.parts.items ≡ small_parts (kept (are_asked spans.now) args))) }
 {
     if !put_asked_rule(chunk, spans, small)? {

@@ -102,7 +102,7 @@ pub(crate) fn after_string(text: &[u8]) -> Option<&[u8]>
     }
 }
 
-/// The same of any string.
+/// What follows the string here that begins with a double quote, whatever stands in it and however many quotes it has.
 #[inline(always)]
 fn after_any_string(text: &[u8]) -> Option<&[u8]>
     ensures { IfSome result (λ rest. IsTokenFront String text.now rest.now) }

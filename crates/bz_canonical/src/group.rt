@@ -65,7 +65,8 @@ pub(crate) fn after_broken_group(
 ) -> Option<Value<'_>>
     requires commas { (n : ℕ) → has_commas kind false n ≡ true }
     requires deep { level + depth + 1 < 255 }
-    ensures { IfSome result (λ v. IsGroupFront kind level (depth + 1) (opening kind ++ inside.now) v.rest.now v.holds) }
+    ensures { IfSome result (λ v. IsGroupFront kind level (depth + 1)
+        (opening kind ++ inside.now) v.rest.now v.holds) }
 {
     let read = after_segments(kind, inside, level + 1, depth)?;
     let many = breaks(kind, read.count >= 1, read.count >= 2, read.holds);
@@ -84,7 +85,8 @@ pub(crate) fn after_broken_group(
 #[inline(always)]
 fn after_flat_group(kind: GroupKind, inside: &[u8], level: u8, depth: u8) -> Option<Value<'_>>
     requires { level + depth < 255 }
-    ensures { IfSome result (λ v. IsGroupFront kind level (depth + 1) (opening kind ++ inside.now) v.rest.now v.holds) }
+    ensures { IfSome result (λ v. IsGroupFront kind level (depth + 1)
+        (opening kind ++ inside.now) v.rest.now v.holds) }
 {
     let read = after_flat_segments(kind, inside, level, depth)?;
     let broken = breaks(kind, read.one, read.two, read.holds);

@@ -10,6 +10,7 @@ ghost use Rattle.bz_canonical.specs.declared.spans.ArgumentSpan.{ArgumentSpan};
 pub fn rules_are_sealed()
     ensures { (names : List (List ℕ)) (r : NamedRule) (stands : List (List ℕ)) (written : List ℕ)
         (spans : List ArgumentSpan) → 0 < length spans → IsSpanned names r stands written spans
-        → IsSealed (λ run t. are_alike run t ≡ true) names (count_sealed (are_asked (drop 1 spans))) (statement_of r)
+        → IsSealed (λ run t. are_alike run t ≡ true) names (count_sealed (are_asked (drop 1 spans)))
+        (statement_of r)
         (statement_of (sealed_rule (are_asked (drop 1 spans)) r)) }
 {}

@@ -92,7 +92,8 @@ pub(crate) fn put_list<'t>(text: &'t [u8], written: &mut Vec<u8>) -> Known<&'t [
 /// What follows the list of this element alone, where it has no comments.
 #[inline(always)]
 fn after_only<'t>(only: ReadElement<'t>, lines: bool) -> Option<&'t [u8]>
-    ensures { IfSome result (λ rest. (only.entry.noted ≡ false) × (only.entry.rest.now ≡ closing lines ++ rest.now)) }
+    ensures { IfSome result (λ rest. (only.entry.noted ≡ false)
+        × (only.entry.rest.now ≡ closing lines ++ rest.now)) }
 {
     if only.noted {
         return None;

@@ -29,7 +29,8 @@ pub fn argument_place<'t>(
     rule: SpannedRule<'t>,
     name: usize,
 ) -> Option<ArgumentPlace<'t>>
-    ensures { IfSome result (λ place. (first depth : ℕ) (names : List (List ℕ)) (attr : List ℕ) (s : Statement)
+    ensures { IfSome result (λ place. (first depth : ℕ) (names : List (List ℕ)) (attr : List ℕ)
+        (s : Statement)
         → HasSpans first depth names s chunk.now rule.entry.written.now rule.entry.spans.now
         → position (λ asked. bytes_eq asked attr) names ≡ Some name → HasPlace depth attr s (between place)) }
 {

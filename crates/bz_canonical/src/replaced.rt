@@ -4,10 +4,11 @@ ghost use Rattle.std.specs.Prelude.{IfOk, IfSome};
 ghost use Rattle.bz_canonical.specs.Canonical.{read_alone};
 ghost use Rattle.bz_canonical.specs.Replaced.{ReplacesInLines};
 
-use crate::edited::{EditedList, ListEdit, NewString, put_edited};
+use crate::edited::{Becomes, EditedList, ListEdit, NewString, put_edited};
 use bz_attribute::Env;
 use bz_memory::NoMemory;
 use bz_rule::forms::ReplacedValue;
+use std::slice::from_ref;
 
 /// What `replace` makes of the argument that has these lines, where its value is one list of strings
 /// (`execute_on_list` of bz_engine asks). `Unchanged`: no element equals the old value, but those that are exactly the
@@ -29,8 +30,8 @@ pub fn put_replaced(
     };
     let edit = ListEdit {
         attr: replaced.attr,
-        word: replaced.old,
-        new: Some(new),
+        words: from_ref(replaced.old),
+        becomes: Becomes::Other(new),
     };
     put_edited(env.home, lines, edit, max_depth, written)
 }

@@ -45,7 +45,8 @@ pub(crate) fn read_rule_chunk<'t>(
     chunk_of(rule, left, written.as_slice(), read)
 }
 
-/// The same, where it is noted how its arguments stand, and which of them have one of these names.
+/// The chunk of this rule, where it stands as it would be written but for arguments whose value is a list of strings. It
+/// is noted how its arguments stand, and which of them have one of these names.
 #[inline(never)]
 pub(crate) fn read_noted_chunk<'t>(
     rule: NamedRule<'t>,
@@ -106,7 +107,8 @@ fn chunk_of<'t>(
 ) -> Known<CanonicalChunk<'t>>
     ensures chunk { IfOk result (λ known. IfSome known (λ found. (depth : ℕ)
         → IsRuleRead depth rule.entry.name.now rule.entry.text.now read.entry.rest.now (if read.entry.as_is
-        then take (length rule.entry.text.now - length read.entry.rest.now) rule.entry.text.now else buffer.now)
+        then take (length rule.entry.text.now - length read.entry.rest.now) rule.entry.text.now
+        else buffer.now)
         → IsChunkOf depth rule.entry.text.now found)) }
     ensures name { IfOk result (λ known. IfSome known (λ found. IsNamedChunk rule.entry left found)) }
     ensures noted { IfOk result (λ known. IfSome known (λ found. found.noted ≡ false)) }

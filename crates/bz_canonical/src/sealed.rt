@@ -55,7 +55,8 @@ fn put_comment<'a>(
 ) -> Result<Option<&'a str>, NoMemory>
     ensures rest { IfOk result (λ known. IfSome known (λ rest.
         rest.now ≡ drop (prefix_len (λ b. not (b == 10)) line.now + 1) line.now)) }
-    ensures part { IfOk result (λ known. IfSome known (λ rest. map part_view parts.new.items ≡ map part_view parts.old.items
+    ensures part { IfOk result (λ known. IfSome known
+        (λ rest. map part_view parts.new.items ≡ map part_view parts.old.items
         ++ above (between indent (prefix_len (λ b. not (b == 10)) line.now) line.now) ∷ [])) }
 {
     let len = line_len(line.as_bytes());
@@ -163,7 +164,8 @@ fn put_front<'a>(front: &'a str, parts: &mut Parts<'a>) -> Result<bool, NoMemory
 /// Reads the argument `name` of these lines.
 fn put_name<'a>(line: &'a str, parts: &mut Parts<'a>) -> Result<bool, NoMemory>
     ensures { IfOk result (λ put. IsTrue put → (name : List ℕ) → line.now ≡ name_line name
-        → map part_view parts.new.items ≡ map part_view parts.old.items ++ segs_parts (segs_of (name_argument name ∷ []))) }
+        → map part_view parts.new.items
+        ≡ map part_view parts.old.items ++ segs_parts (segs_of (name_argument name ∷ []))) }
 {
     let Some(len) = line.len().checked_sub(1) else {
         return Ok(false);
@@ -180,7 +182,8 @@ fn put_name<'a>(line: &'a str, parts: &mut Parts<'a>) -> Result<bool, NoMemory>
 
 /// Reads the comments after the arguments of a rule, its bracket, and the comment beside it.
 fn put_back<'a>(back: &'a str, parts: &mut Parts<'a>) -> Result<bool, NoMemory>
-    ensures { IfOk result (λ put. IsTrue put → (end : List (List ℕ)) (suffix : Option (List ℕ)) → AreComments end
+    ensures { IfOk result (λ put. IsTrue put → (end : List (List ℕ)) (suffix : Option (List ℕ))
+        → AreComments end
         → back.now ≡ back_text end suffix
         → map part_view parts.new.items ≡ map part_view parts.old.items ++ back_parts end suffix) }
 {
@@ -251,7 +254,8 @@ fn put_argument<'a>(
     parts: &mut Parts<'a>,
 ) -> Result<Option<usize>, NoMemory>
     ensures within { IfOk result (λ known. IfSome known (λ len. len ≤ length asked.now)) }
-    ensures part { IfOk result (λ known. IfSome known (λ len. (names : List (List ℕ)) (from : ℕ) (run : List Segment)
+    ensures part { IfOk result (λ known. IfSome known
+        (λ len. (names : List (List ℕ)) (from : ℕ) (run : List Segment)
         (a : Segment) (stands after : List ℕ) (others : List Segment)
         → IsSpan names from (start + length (argument_lines run)) a stands span
         → drop start written.now ≡ argument_lines (run ++ a ∷ []) ++ after
@@ -292,7 +296,8 @@ fn put_span<'a>(
     span: ArgumentSpan,
     parts: &mut Parts<'a>,
 ) -> Result<bool, NoMemory>
-    ensures { IfOk result (λ put. IsTrue put → (names : List (List ℕ)) (from : ℕ) (run : List Segment) (a : Segment)
+    ensures { IfOk result (λ put. IsTrue put
+        → (names : List (List ℕ)) (from : ℕ) (run : List Segment) (a : Segment)
         (stands after : List ℕ) → IsSpan names from (start + length (argument_lines run)) a stands span
         → drop start written.now ≡ argument_lines (run ++ a ∷ []) ++ after → map part_view parts.new.items
         ≡ map part_view parts.old.items ++ segs_parts (segs_of (sealed_after run a ∷ []))) }
@@ -345,9 +350,11 @@ pub(crate) fn put_rule<'a>(
     asked: &[Part<'a>],
     parts: &mut Parts<'a>,
 ) -> Result<bool, NoMemory>
-    ensures { IfOk result (λ put. IsTrue put → (names : List (List ℕ)) (r : NamedRule) (stands : List (List ℕ))
+    ensures { IfOk result (λ put. IsTrue put
+        → (names : List (List ℕ)) (r : NamedRule) (stands : List (List ℕ))
         → IsSpanned names r stands rule.entry.written.now rule.entry.spans.now
-        → map part_view asked.now ≡ segs_parts (segs_of (kept (are_asked (drop 1 rule.entry.spans.now)) r.args))
+        → map part_view asked.now
+        ≡ segs_parts (segs_of (kept (are_asked (drop 1 rule.entry.spans.now)) r.args))
         → map part_view parts.new.items ≡ map part_view parts.old.items
         ++ parts_of (statement_of (sealed_rule (are_asked (drop 1 rule.entry.spans.now)) r))) }
 {
@@ -373,7 +380,8 @@ fn put_head<'a>(
     span: ArgumentSpan,
     parts: &mut Parts<'a>,
 ) -> Result<bool, NoMemory>
-    ensures { IfOk result (λ put. IsTrue put → (notes : List (List ℕ)) (kind name after : List ℕ) → AreComments notes
+    ensures { IfOk result (λ put. IsTrue put → (notes : List (List ℕ)) (kind name after : List ℕ)
+        → AreComments notes
         → is_text Identifier kind ≡ true → written.now ≡ front_text notes kind ++ (name_line name ++ after)
         → span.start ≡ length (front_text notes kind) → span.end ≡ span.start + length (name_line name)
         → map part_view parts.new.items ≡ map part_view parts.old.items
@@ -399,9 +407,11 @@ pub(crate) fn sealed_row<'a>(
     start: u64,
     end: u64,
 ) -> Result<Option<Row<'a>>, NoMemory>
-    ensures { IfOk result (λ known. IfSome known (λ row. (names : List (List ℕ)) (r : NamedRule) (stands : List (List ℕ))
+    ensures { IfOk result (λ known. IfSome known
+        (λ row. (names : List (List ℕ)) (r : NamedRule) (stands : List (List ℕ))
         → IsSpanned names r stands rule.entry.written.now rule.entry.spans.now
-        → map part_view asked.now ≡ segs_parts (segs_of (kept (are_asked (drop 1 rule.entry.spans.now)) r.args))
+        → map part_view asked.now
+        ≡ segs_parts (segs_of (kept (are_asked (drop 1 rule.entry.spans.now)) r.args))
         → r.first_line ≡ start → r.last_line ≡ end
         → IsRowOf (statement_of (sealed_rule (are_asked (drop 1 rule.entry.spans.now)) r)) row)) }
 {

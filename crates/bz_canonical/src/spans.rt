@@ -115,7 +115,8 @@ struct Place {
 fn place_of(len: usize, at: Pending<'_>, written: &Vec<u8>) -> Option<Place>
     ensures stands { IfSome result (λ place. place.stands + length at.entry.rest.now ≡ len) }
     ensures written { IfSome result (λ place. (text all : List ℕ)
-        → IsPending text written.now.items all at.entry.from.now at.entry.rest.now → place.written ≡ length all) }
+        → IsPending text written.now.items all at.entry.from.now at.entry.rest.now
+        → place.written ≡ length all) }
 {
     let rest = at.rest.len();
     if len < rest {
@@ -217,7 +218,8 @@ pub(crate) fn note_rule<'t>(
     ensures rule { IfOk result (λ known. IfSome known (λ noted. IsRuleRead (notes.entry.depth + 1)
         head.entry.name.now text.now noted.rule.rest.now (if noted.rule.as_is
         then take (length text.now - length noted.rule.rest.now) text.now else written.new.items))) }
-    ensures spans { IfOk result (λ known. IfSome known (λ noted. IsTrue noted.known → NotesRule (notes.entry.depth + 1)
+    ensures spans { IfOk result (λ known. IfSome known
+        (λ noted. IsTrue noted.known → NotesRule (notes.entry.depth + 1)
         notes.entry.names.now text.now noted.rule written.new.items spans.new.items)) }
 {
     written.clear();

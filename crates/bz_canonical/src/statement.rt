@@ -32,7 +32,8 @@ pub(crate) fn read_whole_statement<'t>(
 ) -> Option<ReadStatement<'t>>
     requires depth { max_depth < 254 }
     requires lines { AreLinesFront text.now start.now }
-    ensures { IfSome result (λ read. IsStatementFront max_depth read.class (option_map (λ name. name.now) read.name)
+    ensures { IfSome result (λ read. IsStatementFront max_depth read.class
+        (option_map (λ name. name.now) read.name)
         (option_map (λ kind. kind.now) read.kind) text.now read.end.now read.rest.now) }
 {
     if let Some(rest) = after(start, b'\n') {

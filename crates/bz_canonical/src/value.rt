@@ -205,7 +205,8 @@ fn after_sum(text: &[u8], level: u8, depth: u8) -> Option<Value<'_>>
 #[inline(always)]
 pub(crate) fn after_first(first: Value<'_>, level: u8, depth: u8) -> Option<Value<'_>>
     requires { level + depth < 255 }
-    ensures { IfSome result (λ v. (all : List ℕ) → IsTermFront level depth all first.entry.rest.now first.entry.holds
+    ensures { IfSome result (λ v. (all : List ℕ)
+        → IsTermFront level depth all first.entry.rest.now first.entry.holds
         → AreNodesFront level depth all v.rest.now v.holds) }
 {
     match after_infix(first.rest) {
@@ -227,7 +228,8 @@ pub(crate) fn after_first(first: Value<'_>, level: u8, depth: u8) -> Option<Valu
 fn after_operands(text: &[u8], before: bool, level: u8, depth: u8) -> Option<Value<'_>>
     requires { level + depth < 255 }
     ensures { IfSome result (λ v. (all : List ℕ)
-        → ((rest : List ℕ) (k : Bool) → IsTermFront level depth text.now rest k → Chains level depth all rest (before || k))
+        → ((rest : List ℕ) (k : Bool) → IsTermFront level depth text.now rest k
+        → Chains level depth all rest (before || k))
         → AreNodesFront level depth all v.rest.now v.holds) }
 {
     let mut next = text;

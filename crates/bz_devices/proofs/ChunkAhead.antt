@@ -13,7 +13,8 @@ use Rattle.bz_token.specs.declared.cutter.Cut.{Cut}
 use Rattle.bz_token.specs.declared.cutter.Cut.TheVariants.{More, Block}
 use Rattle.bz_token.specs.declared.cutter.Next.TheVariants.{Goes, Ends, Short}
 use Rattle.bz_token.proofs.CutAnswers.{line_goes}
-use Rattle.bz_devices.specs.Ahead.{Ahead, IsReadOn, IsNextChunk, MayFollow, BeginsTooLong, IsTooLong, IsUncertain, IsUndecided, IsFewAfter}
+use Rattle.bz_devices.specs.Device.{MayFollow}
+use Rattle.bz_devices.specs.Ahead.{Ahead, IsReadOn, IsNextChunk, BeginsTooLong, IsTooLong, NoneIsChunk, IsUndecided, IsFewAfter}
 use Rattle.bz_devices.specs.private.AheadSteps.{IsOpen, IsLineAt, GoesAfter, IsBegun, GoesOn, EndsAt, IsEnd}
 use Rattle.bz_devices.proofs.ChunkLines.{line_is_physical, tail_is}
 use Rattle.bz_devices.proofs.ReadOn.{front_stays, back_grows, follows_read, ended_on}
@@ -87,7 +88,7 @@ pub too_long_line : (max e : ℕ) (ahead : Ahead) → max < length ahead.bytes �
 too_long_line max e ahead over within begun is rest may = line_too_long max e ahead.bytes rest over begun.last (begun.longer rest may) is within
 
 -- with a byte more the chunk is longer than all that is ahead
-pub uncertain_line : (e : ℕ) (ahead : Ahead) → ahead.ended ≡ false → e ≤ length ahead.bytes → IsBegun ahead e → IsOpen (drop e ahead.bytes) → IsUncertain ahead
+pub uncertain_line : (e : ℕ) (ahead : Ahead) → ahead.ended ≡ false → e ≤ length ahead.bytes → IsBegun ahead e → IsOpen (drop e ahead.bytes) → NoneIsChunk ahead.bytes
 uncertain_line e ahead ended within begun is m some fits claim =
     let bytes = ahead.bytes in
     let byte : List ℕ = 0 ∷ [] in
@@ -103,7 +104,7 @@ uncertain_line e ahead ended within begun is m some fits claim =
     omega (arith, length-take m bytes)
 
 -- what may follow a block ends its chunk or goes on with it
-pub uncertain_block : (n : ℕ) (ahead : Ahead) (slice : List ℕ) (at_end : Bool) → slice ≡ drop n ahead.bytes → IsNext Short at_end (take n ahead.bytes) slice → IsUncertain ahead
+pub uncertain_block : (n : ℕ) (ahead : Ahead) (slice : List ℕ) (at_end : Bool) → slice ≡ drop n ahead.bytes → IsNext Short at_end (take n ahead.bytes) slice → NoneIsChunk ahead.bytes
 uncertain_block n ahead slice at_end same next m some fits claim =
     let bytes = ahead.bytes in
     let front = take n bytes in
@@ -176,7 +177,7 @@ block_goes n cutter ahead slice at_end same ended block next after =
     }
 
 -- the next line, whatever follows what is ahead
-next_line : (ahead : Ahead) (e n : ℕ) → IsLineAt ahead e n → (rest : List ℕ) → MayFollow ahead rest → first_line (drop e ahead.bytes ++ rest) ≡ take (n - e) (drop e ahead.bytes)
+next_line : (ahead : Ahead) (e n : ℕ) → IsLineAt ahead e n → (rest : List ℕ) → MayFollow ahead.ended rest → first_line (drop e ahead.bytes ++ rest) ≡ take (n - e) (drop e ahead.bytes)
 next_line ahead e n at rest may =
     let after = drop e ahead.bytes in
     elim at.line [

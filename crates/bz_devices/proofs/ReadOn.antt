@@ -4,9 +4,9 @@ use Rattle.std.specs.Prelude.{IsTrue, ◌||◌}
 use Rattle.std.proofs.lemmas.Bool.{false≢true}
 use Rattle.std.proofs.lemmas.List.{drop-append-le, take-append-le}
 use Rattle.std.proofs.lemmas.List.Concat.{flat_map-append}
-use Rattle.bz_devices.specs.Device.{ends, NoneEnds, NoneAfterEnd, Rises}
+use Rattle.bz_devices.specs.Device.{ends, MayFollow, NoneEnds, NoneAfterEnd, Rises}
 use Rattle.bz_devices.specs.DeviceLaws.{ends-append}
-use Rattle.bz_devices.specs.Ahead.{Ahead, IsReadOn, MayFollow, IsUndecided, AreNeeded}
+use Rattle.bz_devices.specs.Ahead.{Ahead, IsReadOn, IsUndecided, AreNeeded}
 use Rattle.std.specs.List.{concat}
 
 -- no read
@@ -114,7 +114,7 @@ read_then max a b c xs ys first second =
     }
 
 -- what may follow the bytes after the reads may follow the first with them
-pub follows_read : (max : ℕ) (old new : Ahead) (pieces : List (List ℕ)) (rest : List ℕ) → IsReadOn max old new pieces → MayFollow new rest → MayFollow old (concat pieces ++ rest)
+pub follows_read : (max : ℕ) (old new : Ahead) (pieces : List (List ℕ)) (rest : List ℕ) → IsReadOn max old new pieces → MayFollow new.ended rest → MayFollow old.ended (concat pieces ++ rest)
 follows_read max old new pieces rest read may ended =
     let none : pieces ≡ [] = read.stays ended in
     let now : new.ended ≡ true = or_true old.ended (ends pieces) new.ended read.ended ended in

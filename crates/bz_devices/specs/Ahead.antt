@@ -1,13 +1,12 @@
 -- The bytes of an input that were read and not yet taken, and the chunk that they begin with (this project's
--- own rule). What a chunk is, stop 8 says: a statement with the comment lines above it, comment lines alone,
--- or a blank line.
+-- own rule). What a chunk is, bz_token `Chunks` says: a statement with the comment lines above it, comment
+-- lines alone, or a blank line.
 -- Begin with `IsUndecided` and `IsTooLong`.
--- Of later stops: 8 `EndsBefore`, `chunks`.
 use Rattle.std.specs.Prelude.{◌≡◌, ℕ, ◌+◌, ◌*◌, ◌<◌, ◌≤◌, Bool, false, ◌||◌, IsTrue, List, [], ◌∷◌, ◌++◌, length, take, drop, ⊤}
 use Rattle.std.specs.List.{concat}
 use Rattle.bz_token.specs.Chunks.{chunks}
 use Rattle.bz_token.specs.Cuts.{EndsBefore}
-use Rattle.bz_devices.specs.Device.{ends, NoneEnds, NoneAfterEnd}
+use Rattle.bz_devices.specs.Device.{ends, MayFollow, NoneEnds, NoneAfterEnd}
 
 -- what was read and not yet taken, how many reads were made, and whether one met the end of the input
 pub record Ahead : Type 0 where
@@ -27,10 +26,6 @@ pub record IsReadOn (max_reads : ℕ) (old new : Ahead) (pieces : List (List ℕ
   pub none_after : NoneAfterEnd pieces
   pub few : length (concat pieces) ≤ 8192 * length pieces
 
--- what may follow the bytes ahead: nothing, where the end was met
-abbrev pub MayFollow : Ahead → List ℕ → Type 0
-MayFollow ahead rest = IsTrue ahead.ended → rest ≡ []
-
 -- The first n bytes ahead are the next chunk, whatever follows. It has at most `max_statement` bytes, and at
 -- most 8,192 are left after it, as many as one read gives at most.
 pub record IsNextChunk (max_statement : ℕ) (ahead : Ahead) (n : ℕ) : Type 0 where
@@ -38,7 +33,7 @@ pub record IsNextChunk (max_statement : ℕ) (ahead : Ahead) (n : ℕ) : Type 0 
   pub within : n ≤ length ahead.bytes
   pub size : n ≤ max_statement
   pub left : length (drop n ahead.bytes) ≤ 8192
-  pub ends : (rest : List ℕ) → MayFollow ahead rest
+  pub ends : (rest : List ℕ) → MayFollow ahead.ended rest
       → EndsBefore (take n ahead.bytes) (drop n ahead.bytes ++ rest)
 
 -- The first chunk of these bytes and the rest begins with a front of the bytes, `seen` of them, that is
@@ -53,7 +48,7 @@ pub record BeginsTooLong (max_statement : ℕ) (bytes rest : List ℕ) : Type 0 
 
 -- The next chunk is too long, whatever follows.
 abbrev pub IsTooLong : ℕ → Ahead → Type 0
-IsTooLong most ahead = (rest : List ℕ) → MayFollow ahead rest → BeginsTooLong most ahead.bytes rest
+IsTooLong most ahead = (rest : List ℕ) → MayFollow ahead.ended rest → BeginsTooLong most ahead.bytes rest
 
 -- All bytes ahead but 8,192 at most belong to the next chunk: where more stand after the first n, it has more
 -- than n.
@@ -64,10 +59,6 @@ IsFewAfter ahead = (n : ℕ) → n + 8192 < length ahead.bytes → IsTooLong n a
 abbrev pub NoneIsChunk : List ℕ → Type 0
 NoneIsChunk bytes = (n : ℕ) → 0 < n → n ≤ length bytes
     → ((rest : List ℕ) → EndsBefore (take n bytes) (drop n bytes ++ rest)) → ⊥
-
--- No front of the bytes ahead is a chunk whatever follows.
-abbrev pub IsUncertain : Ahead → Type 0
-IsUncertain ahead = NoneIsChunk ahead.bytes
 
 -- These bytes leave the next chunk open: no front of them is a chunk whatever follows, and it is not sure to
 -- be too long.

@@ -1,14 +1,17 @@
 -- Devices: what reads gave, whether they met the end, and counts of bytes and failures (this project's own
 -- rule). One piece stands for one read; an empty one is the end of the input.
 -- Begin with `NoneEnds` and `Rises`.
-use Rattle.std.specs.Prelude.{◌≡◌, ℕ, ◌+◌, ◌<◌, ◌≤◌, ◌-◌, ◌^◌, Bool, false, IsTrue, List, [], ◌∷◌, ◌++◌, Option, None, Some, ⊤}
-use Rattle.bz_token.specs.Common.{is_empty, map_or}
-use Rattle.std.specs.Prelude.{length}
-use Rattle.std.specs.List.{concat, last_or, AllByRecursion}
+use Rattle.std.specs.Prelude.{◌≡◌, ℕ, ◌+◌, ◌<◌, ◌≤◌, ◌-◌, ◌^◌, Bool, false, IsTrue, List, [], ◌∷◌, ◌++◌, Option, None, Some, ⊤, true, length}
+use Rattle.bz_token.specs.Common.{is_empty, last_of, map_or}
+use Rattle.std.specs.List.{concat, AllByRecursion}
 
 -- whether the last of these reads gave no byte, and so met the end of the input
 abbrev pub ends : List (List ℕ) → Bool
-ends pieces = map_or false is_empty (last_or None pieces)
+ends pieces = map_or false is_empty (last_of pieces)
+
+-- what may follow what was read: nothing, where the end of the input was met
+abbrev pub MayFollow : Bool → List ℕ → Type 0
+MayFollow ended rest = ended ≡ true → rest ≡ []
 
 -- None of these reads met the end of the input: each gave a byte.
 abbrev pub NoneEnds : List (List ℕ) → Type 0

@@ -1,7 +1,7 @@
 -- What a command that looks at one argument alone makes of its lines, and so of the rule.
 use Rattle.std.proofs.Common.{◌≡◌, ℕ, Bool, ◌&&◌, ◌||◌, not, true, false, List, [], ◌∷◌, ◌++◌, length, refl, sym, ◌∙◌, ap, subst, arith, append_assoc, append-nil, if◌then◌else◌}
 use Rattle.std.proofs.lemmas.Bool.{false≢true}
-use Rattle.std.specs.Prelude.{codes, option_to_list, Option, None, Some, Result, Ok, Err, IfOk, IfSome}
+use Rattle.std.specs.Prelude.{option_to_list, Option, None, Some, Result, Ok, Err, IfOk, IfSome, IsTrue}
 use Rattle.bz_tree.specs.Tree.{Segment, Statement}
 use Rattle.bz_layout.specs.Gaps.{gap_text, lines_before}
 use Rattle.bz_layout.specs.Layout.{layout_text}
@@ -11,22 +11,22 @@ use Rattle.bz_label.specs.declared.arguments.Attributes.TheVariants.{Named}
 use Rattle.bz_label.specs.declared.arguments.Commented.TheVariants.{Attribute}
 use Rattle.bz_label.specs.declared.arguments.Chosen.TheVariants.{Values}
 use Rattle.bz_label.specs.Labels.{Package}
-use Rattle.bz_label.specs.Values.{quoted}
 use Rattle.bz_attribute.specs.declared.done.Done.{Done}
-use Rattle.bz_attribute.specs.Effects.{chooses, done, edit_first, has, is_chosen, slot_done, with_args, with_comment}
+use Rattle.bz_attribute.specs.Effects.{has, is_chosen, with_args}
+use Rattle.bz_attribute.specs.Reports.{chooses, done, slot_done}
 use Rattle.bz_attribute.specs.declared.done.Note.TheVariants.{NoAttribute}
 use Rattle.bz_attribute.proofs.EditedAt.{with_args_at}
-use Rattle.bz_attribute.proofs.Locals.{is_there}
 use Rattle.bz_attribute.specs.Lists.{equals, parts}
 use Rattle.bz_rule.specs.Add.{add}
-use Rattle.bz_rule.specs.Replace.{is_replaced, replaces_in}
+use Rattle.bz_rule.specs.Replace.{is_replaced}
+use Rattle.bz_rule.specs.Reports.{replaces_in, removes}
 use Rattle.bz_rule.proofs.Adds.{add_is}
 use Rattle.bz_attribute.specs.RowPlaces.{LooksAt}
-use Rattle.bz_attribute.specs.Rules.{Rule, first_named, is_named, is_text, rule_of, string_value, value}
+use Rattle.bz_attribute.specs.Rules.{Rule, first_named, is_text, rule_of, string_value, value}
 use Rattle.std.specs.List.{list_any}
 use Rattle.bz_rule.specs.Comment.{comment_line}
 use Rattle.bz_canonical.specs.Commented.{TakesComment, commented}
-use Rattle.bz_canonical.specs.Added.{AddsToLines, LacksInLines}
+use Rattle.bz_canonical.specs.Added.{AddsToLines, AreInLines}
 use Rattle.bz_canonical.specs.Removed.{RemovesFromLines}
 use Rattle.bz_canonical.specs.Replaced.{ReplacesInLines}
 use Rattle.bz_canonical.specs.Canonical.{AloneLines, AreReadAlone, Between, HasPlace, argument_lines, first_args, rule_args}
@@ -35,20 +35,27 @@ use Rattle.bz_rule.specs.Commands.{Command, after, args_after, args_done, done_o
 use Rattle.bz_rule.specs.OneAttribute.{one_attribute}
 use Rattle.bz_rule.proofs.Lawfulness.{local}
 use Rattle.bz_engine.specs.declared.argument.EditedArgument.TheVariants.{Unchanged}
-use Rattle.bz_rule.specs.declared.forms.ListValue.{ListValue}
+use Rattle.bz_rule.specs.declared.forms.AttributeValues.{AttributeValues}
 use Rattle.bz_canonical.specs.declared.edited.EditedList.{EditedList}
 use Rattle.bz_canonical.specs.declared.edited.EditedList.TheVariants.{Unchanged as Unlisted, Written as Listed}
 use Rattle.bz_rule.specs.declared.forms.ReplacedValue.{ReplacedValue}
-use Rattle.bz_engine.specs.private.ArgumentEdits.{AddsArgument, ChangesArgs, EditsLines, EditsList, EditsPlace, list_argument}
+use Rattle.bz_engine.specs.private.ArgumentEdits.{AddsArgument, ChangesArgs, EditsLines, EditsList, EditsPlace}
 use Rattle.bz_engine.specs.private.Found.{Makes, told_line}
 use Rattle.bz_engine.proofs.TextAnswers.{no_args, none_has, stays_by}
 use Rattle.bz_token.specs.Common.{is_empty, map_or}
 
 -- what is added where none has the name
-pub adds_list : (attr value lines : List ℕ) → lines ≡ argument_lines (list_argument attr value ∷ []) → AddsArgument (Add attr (value ∷ [])) lines
-adds_list attr value lines lines_are = λ home.
-    let is : add home attr (value ∷ []) [] ≡ list_argument attr value ∷ [] = add_is home attr (value ∷ []) [] in
-    record { told = refl; goes = λ none. absurd (false≢true (sym (ap is_empty is) ∙ none)); lines_are = lines_are ∙ ap argument_lines (sym is) }
+adds_list : (home : Package) (attr : List ℕ) (values : List (List ℕ)) (lines : List ℕ) → lines ≡ argument_lines (add home attr values []) → AddsArgument (Add attr values) home lines
+adds_list home attr values lines lines_are = record { told = refl; goes = λ none. absurd (false≢true (sym (ap is_empty (add_is home attr values [])) ∙ none)); lines_are = lines_are }
+
+pub puts_list : {E : Type 0} (command : Command) (home : Package) (attr : List ℕ) (values : List (List ℕ)) (old new : List ℕ) (r : Result Bool E) → command ≡ Add attr values → old ≡ []
+    → IfOk r (λ put. IsTrue put → new ≡ old ++ argument_lines (add home attr values [])) → IfOk r (λ put. IsTrue put → AddsArgument command home new)
+puts_list command home attr values old new (Ok put) is none known = λ on. subst (λ c. AddsArgument c home new) (sym is) (adds_list home attr values new (known on ∙ ap (λ (t : List ℕ). t ++ argument_lines (add home attr values [])) none))
+puts_list command home attr values old new (Err e) is none known = known
+
+pub at_home : {E : Type 0} (P : Package → Type 0) (home : Package) (r : Result Bool E) → IfOk r (λ put. IsTrue put → (h : Package) → P h) → IfOk r (λ put. IsTrue put → P home)
+at_home P home (Ok put) known = λ on. known on home
+at_home P home (Err e) known = known
 
 -- where no argument is left, there are no lines
 no_lines : (args : List Segment) (lines : List ℕ) → lines ≡ argument_lines args → is_empty args ≡ true → is_empty lines ≡ true
@@ -56,7 +63,7 @@ no_lines [] lines lines_are none = ap is_empty lines_are
 no_lines (a ∷ args) lines lines_are none = absurd (false≢true none)
 
 -- what is added to a list
-adds_listed : (alone : AloneLines) (value : ListValue) (before after : List ℕ) (edited : EditedList) → AddsToLines alone value before after edited → EditsList (Add value.attr.now (value.value.now ∷ [])) alone before after edited
+adds_listed : (alone : AloneLines) (value : AttributeValues) (before after : List ℕ) (edited : EditedList) → AddsToLines alone value before after edited → EditsList (Add value.attr.now value.values.now) alone before after edited
 adds_listed alone value before after Unlisted adds = λ args reads. let is = adds args reads in λ i. done (is.list i) (is.present i)
 adds_listed alone value before after Listed adds = (
   adds.0,
@@ -66,7 +73,7 @@ adds_listed alone value before after Listed adds = (
       record { told = λ i. done (is.list i) (is.new_is i); goes = no_lines _ _ is.lines_are; lines_are = is.lines_are },
 )
 
-pub adds_to_list : {E : Type 0} (command : Command) (alone : AloneLines) (value : ListValue) (before after : List ℕ) → command ≡ Add value.attr.now (value.value.now ∷ []) → (r : Result (Option EditedList) E)
+pub adds_to_list : {E : Type 0} (command : Command) (alone : AloneLines) (value : AttributeValues) (before after : List ℕ) → command ≡ Add value.attr.now value.values.now → (r : Result (Option EditedList) E)
     → IfOk r (λ known. IfSome known (AddsToLines alone value before after)) → IfOk r (λ known. IfSome known (EditsList command alone before after))
 adds_to_list command alone value before after is (Ok None) known = tt
 adds_to_list command alone value before after is (Ok (Some edited)) known = subst (λ c. EditsList c alone before after edited) (sym is) (adds_listed alone value before after edited known)
@@ -91,9 +98,10 @@ none_replaced home old new None none = refl
 none_replaced home old new (Some a) none =
     none_less (list_any (is_replaced home old new)) (list_any (is_chosen home (Values (old ∷ [])))) (λ ss. none_less (is_replaced home old new) (is_chosen home (Values (old ∷ []))) (not_replaced home old new) ss) (parts (value a)) none
 
-pub lacking_is_not_replaced : (alone : AloneLines) (value : ReplacedValue) (before after : List ℕ) → LacksInLines alone (record { attr = value.attr; value = value.old })
+pub lacking_is_not_replaced : (alone : AloneLines) (value : ReplacedValue) (sought : AttributeValues) (before after : List ℕ) → sought.attr.now ≡ value.attr.now → sought.values.now ≡ value.old.now ∷ [] → AreInLines alone sought false
     → EditsList (Replace (Named value.attr.now) value.old.now value.new.now) alone before after Unlisted
-lacking_is_not_replaced alone value before after lacking = λ args reads. ap (done None) (none_replaced alone.home value.old.now value.new.now (first_named value.attr.now args) (lacking args reads))
+lacking_is_not_replaced alone value sought before after attr_is one lacking = λ args reads. ap (done None) (none_replaced alone.home value.old.now value.new.now (first_named value.attr.now args)
+    ((λ i. map_or false (chooses alone.home (Values (sym one i))) (first_named (sym attr_is i) args)) ∙ lacking args reads))
 
 -- a list of which a value becomes another
 replaces_listed : (alone : AloneLines) (value : ReplacedValue) (before after : List ℕ) (edited : EditedList) → ReplacesInLines alone value before after edited
@@ -114,8 +122,8 @@ replaces_in_list alone value before after (Ok (Some edited)) known = replaces_li
 replaces_in_list alone value before after (Err e) known = known
 
 -- a list from which a value goes
-removes_listed : (alone : AloneLines) (value : ListValue) (before after : List ℕ) (edited : EditedList) → RemovesFromLines alone value before after edited
-    → EditsList (Remove (Named value.attr.now) (value.value.now ∷ [])) alone before after edited
+removes_listed : (alone : AloneLines) (value : AttributeValues) (before after : List ℕ) (edited : EditedList) → RemovesFromLines alone value before after edited
+    → EditsList (Remove (Named value.attr.now) value.values.now) alone before after edited
 removes_listed alone value before after Unlisted removes = λ args reads. ap (done None) (removes args reads)
 removes_listed alone value before after Listed removes = (
   removes.0,
@@ -125,30 +133,27 @@ removes_listed alone value before after Listed removes = (
       record { told = ap (done None) is.removed; goes = no_lines _ _ is.lines_are; lines_are = is.lines_are },
 )
 
-pub removes_from_list : {E : Type 0} (alone : AloneLines) (value : ListValue) (before after : List ℕ) (r : Result (Option EditedList) E) → IfOk r (λ known. IfSome known (RemovesFromLines alone value before after))
-    → IfOk r (λ known. IfSome known (EditsList (Remove (Named value.attr.now) (value.value.now ∷ [])) alone before after))
+pub removes_from_list : {E : Type 0} (alone : AloneLines) (value : AttributeValues) (before after : List ℕ) (r : Result (Option EditedList) E) → IfOk r (λ known. IfSome known (RemovesFromLines alone value before after))
+    → IfOk r (λ known. IfSome known (EditsList (Remove (Named value.attr.now) value.values.now) alone before after))
 removes_from_list alone value before after (Ok None) known = tt
 removes_from_list alone value before after (Ok (Some edited)) known = removes_listed alone value before after edited known
 removes_from_list alone value before after (Err e) known = known
 
-pub lacking_stays : (alone : AloneLines) (value : ListValue) (before after : List ℕ) → LacksInLines alone value → EditsList (Remove (Named value.attr.now) (value.value.now ∷ [])) alone before after Unlisted
-lacking_stays alone value before after lacking = λ args reads. ap (done None) (lacking args reads)
-
-list_line : (attr value : List ℕ) → argument_lines (list_argument attr value ∷ []) ≡ codes "\n    " ++ (attr ++ (codes " = [" ++ (quoted value ++ codes "],")))
-list_line attr value = refl
-
-pub list_put : (old a b c d new attr value A Q : List ℕ) → a ≡ old ++ codes "\n    " → b ≡ a ++ A → A ≡ attr → c ≡ b ++ codes " = [" → d ≡ c ++ Q → Q ≡ quoted value → new ≡ d ++ codes "],"
-    → new ≡ old ++ argument_lines (list_argument attr value ∷ [])
-list_put old a b c d new attr value A Q ha hb hA hc hd hQ hn = rw (hn, hd, hQ, hc, hb, hA, ha, list_line attr value) (simp append_assoc)
+pub lacking_stays : (alone : AloneLines) (value : AttributeValues) (before after : List ℕ) → is_empty value.values.now ≡ false → AreInLines alone value false → EditsList (Remove (Named value.attr.now) value.values.now) alone before after Unlisted
+lacking_stays alone value before after some lacking = λ args reads. ap (done None) (by value.values.now some args ∙ lacking args reads)
+  where
+    by : (values : List (List ℕ)) → is_empty values ≡ false → (args : List Segment) → removes alone.home (Named value.attr.now) values args ≡ map_or false (chooses alone.home (Values values)) (first_named value.attr.now args)
+    by [] none args = absurd (false≢true (sym none))
+    by (v ∷ values) some args = refl
 
 -- what may go more often
 changes_more : (command : Command) (home : Package) (b may_go : Bool) (args : List Segment) (lines : List ℕ) → (b ≡ true → may_go ≡ true) → ChangesArgs command home b args lines → ChangesArgs command home may_go args lines
 changes_more command home b may_go args lines more c = record { told = c.told; goes = λ none. more (c.goes none); lines_are = c.lines_are }
 
-pub adds_to_none : (depth : ℕ) (command : Command) (home : Package) (place : Between) (new : List ℕ) → length place.lines ≡ 0 → AddsArgument command new
+pub adds_to_none : (depth : ℕ) (command : Command) (home : Package) (place : Between) (new : List ℕ) → length place.lines ≡ 0 → AddsArgument command home new
     → (args : List Segment) → is_empty place.lines ≡ is_empty args → AreReadAlone depth place.lines args → ChangesArgs command home place.may_go args new
 adds_to_none depth command home place new none adds args empty reads =
-    subst (λ xs. ChangesArgs command home place.may_go xs new) (sym (no_args place.lines args empty none)) (changes_more command home false place.may_go [] new (λ no. absurd (false≢true no)) (adds home))
+    subst (λ xs. ChangesArgs command home place.may_go xs new) (sym (no_args place.lines args empty none)) (changes_more command home false place.may_go [] new (λ no. absurd (false≢true no)) adds)
 
 -- so of the rule
 told_first : (attr : List ℕ) (g : List Segment → Done) (args : List Segment) → LooksAt attr g → g (option_to_list (first_named attr args)) ≡ g args

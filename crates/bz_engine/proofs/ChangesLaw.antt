@@ -10,7 +10,8 @@ use Rattle.bz_passes.specs.Passes.{Slot, Pass, Changes}
 use Rattle.bz_passes.specs.Exchange.{some_execution}
 use Rattle.bz_passes.proofs.Executions.{change_met}
 use Rattle.bz_engine.specs.Scripts.{AreCommands}
-use Rattle.bz_engine.specs.Language.{meaning, changes}
+use Rattle.bz_engine.specs.Language.{meaning}
+use Rattle.bz_engine.specs.Failing.{changes}
 
 is_so : (b : Bool) → IsTrue b → b ≡ true
 is_so true h = refl

@@ -5,7 +5,8 @@ use Rattle.bz_token.specs.Places.{line_at}
 use Rattle.bz_tree.specs.Tree.{Statement}
 use Rattle.bz_tree.specs.declared.tree.Class.{Class}
 use Rattle.bz_passes.specs.Exchange.{IsLeftBy, IsPassedBy, slot_after}
-use Rattle.bz_engine.specs.Language.{meaning, changes, fails_on}
+use Rattle.bz_engine.specs.Language.{meaning}
+use Rattle.bz_engine.specs.Failing.{changes, fails_on}
 use Rattle.bz_engine.specs.File.{IsAnswerOf}
 use Rattle.bz_engine.specs.Outcome.{Run, slots_of, is_query}
 use Rattle.bz_passes.specs.Passes.{slots_after}

@@ -9,7 +9,8 @@ use Rattle.bz_rule.specs.Commands.{Command}
 use Rattle.bz_passes.specs.declared.entry.Entry.{Entry}
 use Rattle.bz_passes.specs.Passes.{Slot}
 use Rattle.bz_passes.specs.Exchange.{Kept, IsLeftBy, log_alone, some_alone}
-use Rattle.bz_engine.specs.Language.{meaning, changes, fails_on}
+use Rattle.bz_engine.specs.Language.{meaning}
+use Rattle.bz_engine.specs.Failing.{changes, fails_on}
 use Rattle.bz_engine.specs.Outcome.{Run}
 use Rattle.bz_passes.specs.Entries.{failure_text}
 use Rattle.bz_engine.specs.Progress.{Progress}

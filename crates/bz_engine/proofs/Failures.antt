@@ -17,7 +17,8 @@ use Rattle.bz_passes.specs.Passes.{Slot, Meaning, Pass, Execution, executions, e
 use Rattle.bz_passes.specs.Exchange.{some_alone, some_execution, some_missing, some_of_commands, is_missing}
 use Rattle.bz_passes.proofs.ExchangeLaw.{some_alone_lem}
 use Rattle.bz_passes.proofs.Executions.{is_met, met_by_commands, met_by_passes}
-use Rattle.bz_engine.specs.Language.{meaning, fails, fails_on, has_failure, note_told}
+use Rattle.bz_engine.specs.Language.{meaning}
+use Rattle.bz_engine.specs.Failing.{fails, fails_on, has_failure, note_told}
 use Rattle.bz_engine.specs.Messages.{note_entry}
 use Rattle.bz_engine.specs.Outcome.{Script, slots_of, some_failure}
 use Rattle.bz_engine.specs.SessionValue.{SessionValue, HasDone}

@@ -10,7 +10,7 @@ use Rattle.bz_devices.specs.Ahead.{Ahead, IsReadOn, IsUndecided}
 use Rattle.bz_devices.proofs.MoreReads.{joined_more, none_ends_more, file_more}
 use Rattle.bz_engine.proofs.Failures.{calm_of}
 use Rattle.bz_engine.specs.declared.options.Options.{Options}
-use Rattle.bz_engine.specs.Outcome.{Script, Run}
+use Rattle.bz_engine.specs.Outcome.{Script, Run, run_with}
 use Rattle.bz_engine.specs.NeededReads.{AreDone, IsOneNeeded, AreNeededAfter, AreReads}
 use Rattle.bz_engine.specs.SessionValue.{SessionValue, run_in, HasDone}
 use Rattle.bz_engine.specs.private.Finds.{AreFew}
@@ -128,8 +128,13 @@ needed_on v mid max_reads pieces cs (piece ∷ read) text done on few =
 
 -- none was made
 pub no_reads : (home : Package) (passes : Script) (options : Options) → AreReads home passes options []
-no_reads home passes options = record { within = omega arith; few = omega arith; needed = tt }
+no_reads home passes options = record { within = omega arith; needed = tt }
 
 pub reads_of : (v : SessionValue) (pieces : List (List ℕ)) → length pieces ≤ v.options.max_reads → AreNeededAfter (run_in v) v.options.max_statement [] pieces
     → AreReads v.home v.passes v.options pieces
-reads_of v pieces within needed = record { within = within; few = few_needed (run_in v) v.options.max_statement [] pieces (omega arith) needed; needed = needed }
+reads_of v pieces within needed = record { within = within; needed = needed }
+
+-- the reads of a run are at most one more than the bytes that they gave
+pub reads_few : (home : Package) (passes : Script) (options : Options) (pieces : List (List ℕ)) → AreReads home passes options pieces
+    → length pieces ≤ length (concat pieces) + 1
+reads_few home passes options pieces reads = few_needed (run_with home passes options) options.max_statement [] pieces (omega arith) reads.needed

@@ -10,7 +10,8 @@ use Rattle.bz_attribute.specs.declared.done.Note.{Note}
 use Rattle.bz_rule.proofs.Lawfulness.{noted_stays, told}
 use Rattle.bz_passes.specs.Passes.{Slot}
 use Rattle.bz_passes.specs.declared.entry.Entry.{Entry}
-use Rattle.bz_engine.specs.Language.{note_told, meaning}
+use Rattle.bz_engine.specs.Language.{meaning}
+use Rattle.bz_engine.specs.Failing.{note_told}
 use Rattle.bz_attribute.specs.Texts.{shown_text}
 use Rattle.bz_token.specs.Common.{map_or}
 

@@ -37,7 +37,7 @@ none_counts ts h = bare_empty ts (nothing_seen (without_lines ts) h)
 -- They are a statement of nothing, and it is not that they are indented.
 blank_plain : (ts : List Placed) → without_lines ts ≡ [] → IsPlain ts (statement_with ts (segment_of []))
 blank_plain ts bare = record {
-  tree = record { owns = []; nested = subst (λ (us : List Placed). AreNested Other us []) (sym bare) no_token; is = refl };
+  tree = record { inners = []; nested = subst (λ (us : List Placed). AreNested Other us []) (sym bare) no_token; is = refl };
   grammar = by_production (former no_nodes);
 }
 

@@ -10,10 +10,11 @@ use Rattle.bz_label.specs.Labels.{Package}
 use Rattle.bz_passes.specs.Passes.{Slot, slots_after, Changes}
 use Rattle.bz_engine.specs.declared.report.SyntaxFault.{SyntaxFault}
 use Rattle.bz_passes.specs.Exchange.{slot_after, some_alone}
-use Rattle.bz_engine.specs.Language.{meaning, fails_on}
+use Rattle.bz_engine.specs.Language.{meaning}
+use Rattle.bz_engine.specs.Failing.{fails_on}
 use Rattle.bz_engine.specs.File.{Follows, AreStatementsOf}
 use Rattle.bz_engine.specs.Progress.{last_class, text_following}
-use Rattle.bz_engine.specs.Outcome.{Script, Run, slots_of, is_query, text_after, Told, some_failure, told_of, told_of_failure, BeginsWith, IsOutcome, IsFrontOf}
+use Rattle.bz_engine.specs.Outcome.{Script, Run, slots_of, is_query, text_after, Told, some_failure, told_of, told_of_failure, BeginsWith, MayGoOn, IsOutcome, IsFrontOf}
 use Rattle.bz_engine.specs.private.Outcomes.{EitherEnd, EndsAtFailure, IsWholeRun}
 use Rattle.bz_engine.proofs.Outcomes.{either_end}
 use Rattle.bz_engine.proofs.Failures.{failure_each}
@@ -125,7 +126,7 @@ text_front home passes xs (s ∷ more) =
 -- The file begins with these statements, and where failures end the run none of them fails.
 pub record BeginsCalmly (run : Run) (file : List ℕ) (ss : List Statement) : Type 0 where
   pub begins : BeginsWith run.max_depth file ss
-  pub none_fails : run.keep_going ≡ false → some_failure run.home run.passes ss ≡ false
+  pub none_fails : MayGoOn run ss
 
 -- the statements of a whole run begin with those that the file begins with
 whole_begins : (depth : ℕ) (file : List ℕ) (xs ss : List Statement) (fault : Option SyntaxFault) → BeginsWith depth file xs → AreStatementsOf depth 1 (chunks file) ss fault → (more : List Statement) × (ss ≡ xs ++ more)

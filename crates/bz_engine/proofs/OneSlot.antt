@@ -6,7 +6,8 @@ use Rattle.bz_tree.specs.Tree.{Statement}
 use Rattle.bz_label.specs.Labels.{Package}
 use Rattle.bz_passes.specs.Passes.{Slot, Meaning, Pass, Marked, marked, executed, executions, executions_of, said, slots_after_pass}
 use Rattle.bz_passes.specs.Exchange.{logs_alone, slot_after_pass, kept_alone, log_alone, some_alone, entries}
-use Rattle.bz_engine.specs.Language.{meaning, fails_on}
+use Rattle.bz_engine.specs.Language.{meaning}
+use Rattle.bz_engine.specs.Failing.{fails_on}
 use Rattle.bz_engine.specs.Outcome.{Script, some_failure}
 use Rattle.bz_passes.proofs.Executions.{said_of_command}
 use Rattle.bz_passes.proofs.ExchangeLaw.{pass_alone}

@@ -30,7 +30,8 @@ use Rattle.bz_passes.specs.declared.entry.Entry.TheVariants.{Line}
 use Rattle.bz_passes.proofs.ExchangeLaw.{left_more}
 use Rattle.bz_passes.proofs.OnePass.{fits_and, fits_at}
 use Rattle.bz_passes.proofs.PassedBy.{unmarked_passed}
-use Rattle.bz_engine.specs.Language.{meaning, changes, fails, fails_on, note_told}
+use Rattle.bz_engine.specs.Language.{meaning}
+use Rattle.bz_engine.specs.Failing.{changes, fails, fails_on, note_told}
 use Rattle.bz_engine.specs.Outcome.{Run, Script, is_query}
 use Rattle.bz_engine.specs.Progress.{Progress, last_class, text_following}
 use Rattle.bz_engine.specs.declared.canonical.Found.{Found}

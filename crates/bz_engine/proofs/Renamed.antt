@@ -15,7 +15,8 @@ use Rattle.bz_layout.specs.Layout.{layout_text}
 use Rattle.bz_layout.specs.Pieces.{Piece, bytes_of, comments, piece, suffix_piece}
 use Rattle.bz_layout.specs.Walked.{items_pieces}
 use Rattle.bz_layout.proofs.Pieces.{bytes_append}
-use Rattle.bz_attribute.specs.Effects.{done, edit_first, has, with_args, with_comment}
+use Rattle.bz_attribute.specs.Effects.{edit_first, has, with_args, with_comment}
+use Rattle.bz_attribute.specs.Reports.{done}
 use Rattle.bz_attribute.specs.Rules.{Rule, first_named, ident_of, is_named, is_text, name_of, rule_of}
 use Rattle.bz_attribute.proofs.Locals.{edit_local, is_first_named, is_there}
 use Rattle.bz_attribute.proofs.EditedAt.{with_args_at}

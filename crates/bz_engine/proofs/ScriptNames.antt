@@ -4,8 +4,7 @@ use Rattle.std.specs.Prelude.{Option, Some, None, bytes_eq, is_some, option_and_
 use Rattle.std.specs.List.{list_all}
 use Rattle.std.proofs.lemmas.Bool.{and_parts, false≢true}
 use Rattle.std.proofs.lemmas.List.Folds.{list_any-append}
-use Rattle.bz_token.specs.Common.{is_filled, map_or}
-use Rattle.bz_token.specs.Lexical.{is_one_of}
+use Rattle.bz_token.specs.Common.{is_filled, map_or, is_one_of}
 use Rattle.bz_rule.specs.Sealed.{attributes_of}
 use Rattle.bz_engine.specs.Outcome.{Script}
 use Rattle.bz_engine.specs.private.Sealed.{asked_names, by_each, covers, is_covered, with_command, with_name, with_pass}

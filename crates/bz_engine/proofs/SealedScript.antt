@@ -3,8 +3,7 @@ use Rattle.std.proofs.Common.{◌≡◌, ℕ, true, false, List, [], ◌∷◌, 
 use Rattle.std.specs.Prelude.{Option, Some, None, if◌then◌else◌, option_to_list}
 use Rattle.std.specs.List.{flat_map, list_all}
 use Rattle.std.proofs.lemmas.Bool.{and_parts, false≢true}
-use Rattle.bz_token.specs.Common.{map_or}
-use Rattle.bz_token.specs.Lexical.{is_one_of}
+use Rattle.bz_token.specs.Common.{map_or, is_one_of}
 use Rattle.bz_tree.specs.Tree.{Statement}
 use Rattle.bz_tree.specs.declared.tree.Class.{Class}
 use Rattle.bz_layout.specs.Gaps.{gap_text, lines_before}
@@ -23,7 +22,8 @@ use Rattle.bz_rule.specs.Commands.{Command}
 use Rattle.bz_rule.specs.Sealed.{IsSealed, SlotsSealed, attributes_of, both_empty, both_rules}
 use Rattle.bz_rule.proofs.NotSeen.{not_seen}
 use Rattle.bz_rule.proofs.SealedStatements.{shown_alike}
-use Rattle.bz_engine.specs.Language.{changes, fails, fails_on, meaning, note_told}
+use Rattle.bz_engine.specs.Language.{meaning}
+use Rattle.bz_engine.specs.Failing.{changes, fails, fails_on, note_told}
 use Rattle.bz_engine.specs.Outcome.{Run, Script, is_query}
 use Rattle.bz_engine.specs.Progress.{Progress, last_class, text_following}
 use Rattle.bz_engine.specs.declared.edit.Scripted.{Scripted}

@@ -195,6 +195,7 @@ ended_failure v mid progress message after max_reads n pieces cs read text comma
             };
       };
       last = (
+        failed.ends,
         take n mid.bytes,
         comes_next v mid max_reads n pieces cs read text done on next,
         failed.statement,

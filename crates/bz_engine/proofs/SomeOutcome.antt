@@ -14,7 +14,8 @@ use Rattle.bz_passes.specs.Passes.{Slot, Changes}
 use Rattle.bz_engine.specs.declared.report.SyntaxFault.{SyntaxFault}
 use Rattle.bz_engine.specs.declared.report.SyntaxFault.TheVariants.{Parse}
 use Rattle.bz_passes.specs.Exchange.{some_alone}
-use Rattle.bz_engine.specs.Language.{meaning, fails_on}
+use Rattle.bz_engine.specs.Language.{meaning}
+use Rattle.bz_engine.specs.Failing.{fails_on}
 use Rattle.bz_engine.specs.File.{not_utf8, IsAnswerOf, Follows, AreStatementsOf}
 use Rattle.bz_label.specs.Labels.{Package}
 use Rattle.bz_engine.specs.Outcome.{Run, Script, slots_of, text_after, Told, some_failure, told_of, told_of_failure, IsOutcome, at_a_failure, at_the_end}

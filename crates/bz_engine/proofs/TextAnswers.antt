@@ -6,7 +6,8 @@ use Rattle.bz_tree.specs.Tree.{Segment, Statement}
 use Rattle.bz_label.specs.declared.arguments.Attributes.TheVariants.{Named}
 use Rattle.bz_label.specs.Labels.{Package}
 use Rattle.bz_attribute.specs.declared.done.Done.{Done}
-use Rattle.bz_attribute.specs.Effects.{done, has}
+use Rattle.bz_attribute.specs.Effects.{has}
+use Rattle.bz_attribute.specs.Reports.{done}
 use Rattle.bz_attribute.specs.Rules.{Rule, first_named, is_named, rule_of}
 use Rattle.bz_canonical.specs.Canonical.{Between, HasPlace, first_args, rule_args}
 use Rattle.bz_rule.specs.declared.command.Action.TheVariants.{Remove, Replace}

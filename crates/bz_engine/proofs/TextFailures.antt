@@ -9,9 +9,11 @@ use Rattle.bz_rule.specs.declared.commands.field.Field.TheVariants.{ValueOf}
 use Rattle.bz_attribute.specs.declared.done.Done.{Done}
 use Rattle.bz_attribute.specs.declared.done.Note.TheVariants.{Missing, NoAttribute}
 use Rattle.bz_rule.specs.Comment.{comment_note}
-use Rattle.bz_rule.specs.Print.{printed, value_text}
+use Rattle.bz_rule.specs.Print.{value_text}
+use Rattle.bz_rule.specs.Reports.{printed}
 use Rattle.bz_rule.specs.Rename.{rename_note}
-use Rattle.bz_attribute.specs.Effects.{done, absent_note}
+use Rattle.bz_attribute.specs.Effects.{absent_note}
+use Rattle.bz_attribute.specs.Reports.{done}
 use Rattle.bz_attribute.specs.Rules.{Rule, first_named, kind_text, name_in, rule_of, string_value, value}
 use Rattle.bz_attribute.specs.Texts.{home_text, shown_text}
 use Rattle.bz_canonical.specs.Canonical.{HasName, IsNameless, rule_args}
@@ -20,7 +22,7 @@ use Rattle.bz_passes.specs.declared.entry.Entry.TheVariants.{Warning}
 use Rattle.bz_rule.specs.declared.command.Action.TheVariants.{Comment, Print, Rename}
 use Rattle.bz_rule.specs.Commands.{Command, args_done, done_of}
 use Rattle.bz_rule.proofs.Lawfulness.{lawful}
-use Rattle.bz_engine.specs.Language.{note_told}
+use Rattle.bz_engine.specs.Failing.{note_told}
 use Rattle.bz_engine.specs.Messages.{note_entry}
 use Rattle.bz_engine.specs.private.Found.{IsWithout, Tells}
 use Rattle.bz_rule.specs.Forms.{needed}

@@ -1,7 +1,6 @@
 -- The statements of a file: those of its chunks in order, up to the first chunk with a fault (this project's
 -- own rule).
 -- Begin with `IsFile`.
--- Of later stops: 8 `chunks`, `column_at`, `line_at`.
 use Rattle.bz_memory.specs.NoMemory.{no_memory}
 use Rattle.std.specs.Prelude.{◌≡◌, ◌≢◌, ℕ, List, [], ◌∷◌, take, Option, None, Some, Result, Ok, Err}
 use Rattle.std.specs.Str.{IsUtf8, IsValidUpTo}
@@ -16,17 +15,19 @@ use Rattle.bz_engine.specs.declared.report.SyntaxFault.TheVariants.{NotUtf8, Par
 -- the fault of bytes of which the first n are UTF-8 and no more are: it is at the place of the next byte,
 -- where the bytes begin on this line
 abbrev pub not_utf8 : ℕ → ℕ → List ℕ → SyntaxFault
-not_utf8 line n bytes = NotUtf8 (line_at line (take n bytes)) (column_at (take n bytes))
+not_utf8 first n bytes = NotUtf8 (line_at first (take n bytes)) (column_at (take n bytes))
 
--- The answer for a chunk, which is read by itself from the number of its first line: a statement, nothing
--- where it is blank, or its first fault.
+-- The answer for a chunk, which is read by itself: a statement, nothing where it is blank, or its first fault.
+-- At most `depth` brackets may be open at once, and its lines count from `first` (as in `Chunk`, which takes
+-- these two the other way round). That memory was refused is no answer, and the fault of no file: of the two
+-- faults that say it the last line leaves one out, and `IsFirstFault` (stop 3) never names the other.
 abbrev pub IsAnswerOf : ℕ → ℕ → List ℕ → Result (Option Statement) SyntaxFault → Type 0
-IsAnswerOf max_depth line chunk (Ok (Some s)) = IsUtf8 chunk × IsStatementIn line max_depth chunk s
-IsAnswerOf max_depth line chunk (Ok None) = IsUtf8 chunk × IsBlank line max_depth chunk
-IsAnswerOf max_depth line chunk (Err (NotUtf8 l c)) =
-    ¬ (IsUtf8 chunk) × ((n : ℕ) × IsValidUpTo chunk n × (NotUtf8 l c ≡ not_utf8 line n chunk))
-IsAnswerOf max_depth line chunk (Err (Parse fault)) =
-    IsUtf8 chunk × IsFaultIn line max_depth chunk fault × (fault ≢ OutOfMemory no_memory)
+IsAnswerOf depth first chunk (Ok (Some s)) = IsUtf8 chunk × IsStatementIn first depth chunk s
+IsAnswerOf depth first chunk (Ok None) = IsUtf8 chunk × IsBlank first depth chunk
+IsAnswerOf depth first chunk (Err (NotUtf8 l c)) =
+    (IsUtf8 chunk → ⊥) × ((n : ℕ) × IsValidUpTo chunk n × (NotUtf8 l c ≡ not_utf8 first n chunk))
+IsAnswerOf depth first chunk (Err (Parse fault)) =
+    IsUtf8 chunk × IsFaultIn first depth chunk fault × (fault ≢ OutOfMemory no_memory)
 
 -- A chunk with such an answer and the chunks after it have these statements and this fault together; `After`
 -- says what the chunks after it have by themselves. A fault ends the list.
@@ -40,11 +41,11 @@ Follows (Ok (Some s)) After statements fault =
 -- The chunks, of which the first begins at this line, have these statements before their first fault, if
 -- there is one.
 abbrev pub AreStatementsOf : ℕ → ℕ → List (List ℕ) → List Statement → Option SyntaxFault → Type 0
-AreStatementsOf max_depth line [] statements fault = (statements ≡ []) × (fault ≡ None)
-AreStatementsOf max_depth line (c ∷ cs) statements fault =
-    (answer : Result (Option Statement) SyntaxFault) × IsAnswerOf max_depth line c answer
-    × Follows answer (AreStatementsOf max_depth (line_at line c) cs) statements fault
+AreStatementsOf depth first [] statements fault = (statements ≡ []) × (fault ≡ None)
+AreStatementsOf depth first (c ∷ cs) statements fault =
+    (answer : Result (Option Statement) SyntaxFault) × IsAnswerOf depth first c answer
+    × Follows answer (AreStatementsOf depth (line_at first c) cs) statements fault
 
 -- The file has these statements before its first fault, or before its end if it has none. Lines count from 1.
 abbrev pub IsFile : ℕ → List ℕ → List Statement → Option SyntaxFault → Type 0
-IsFile max_depth bytes statements fault = AreStatementsOf max_depth 1 (chunks bytes) statements fault
+IsFile depth bytes statements fault = AreStatementsOf depth 1 (chunks bytes) statements fault

@@ -2,6 +2,7 @@ pub mod Progress
 pub mod SessionValue
 pub mod SessionSteps
 pub mod EveryFile
+pub mod Failing
 pub mod File
 pub mod Language
 pub mod Messages

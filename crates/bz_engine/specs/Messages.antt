@@ -39,7 +39,7 @@ abbrev pub lined : ℕ → List ℕ → List ℕ
 lined line what = decimal line ++ codes ": " ++ what
 
 -- the text of a lexical fault (`LexFault`, in `src/fault.rt` of bz_token). Want of memory, here and below, is
--- the fault of no file: `IsAnswerOf` and `IsFaultIn` (stop 7) leave it out.
+-- the fault of no file: `IsAnswerOf` and `IsFaultIn` (stop 4) leave it out.
 abbrev pub lex_text : LexFault → List ℕ
 lex_text (OutOfMemory _) = codes "out of memory"
 lex_text (BadCharacter line col) = placed line col (codes "bad character")
@@ -53,7 +53,7 @@ lex_text (BadBackslash line col) = placed line col (codes "bad backslash")
 -- the text of a file's first fault (`SyntaxFault`, in `src/report.rt`)
 abbrev pub fault_text : SyntaxFault → List ℕ
 fault_text (NotUtf8 line col) = placed line col (codes "not UTF-8")
-fault_text (Parse (parse.OutOfMemory _)) = codes "out of memory"
+fault_text (Parse (parse.OutOfMemory why)) = lex_text (OutOfMemory why)
 fault_text (Parse (parse.Lex fault)) = lex_text fault
 fault_text (Parse (parse.Indented line)) = lined line (codes "indented statement")
 fault_text (Parse (parse.NotAStatement line)) = lined line (codes "not a statement")

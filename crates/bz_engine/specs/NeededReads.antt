@@ -1,28 +1,28 @@
 -- The reads of a run: each was needed (this project's own rule).
 -- Begin with `AreReads`.
--- Of later stops: 4 `Package`, `Statement`; 7 `AreStatementsOf`; 8 `chunks`.
-use Rattle.std.specs.Prelude.{◌≡◌, ℕ, ◌+◌, ◌≤◌, false, IsTrue, List, [], ◌∷◌, ◌++◌, length, None, ⊤}
+use Rattle.std.specs.Prelude.{◌≡◌, ℕ, ◌+◌, ◌≤◌, List, [], ◌∷◌, ◌++◌, length, None, ⊤}
 use Rattle.std.specs.List.{concat}
 use Rattle.bz_token.specs.Chunks.{chunks}
 use Rattle.bz_tree.specs.Tree.{Statement}
 use Rattle.bz_label.specs.Labels.{Package}
-use Rattle.bz_devices.specs.Device.{ends, NoneEnds}
+use Rattle.bz_devices.specs.Device.{ends, MayFollow, NoneEnds}
 use Rattle.bz_devices.specs.Ahead.{IsUndecided}
 use Rattle.bz_engine.specs.declared.options.Options.{Options}
 use Rattle.bz_engine.specs.File.{AreStatementsOf}
-use Rattle.bz_engine.specs.Outcome.{Script, Run, run_with, some_failure}
+use Rattle.bz_engine.specs.Outcome.{Script, Run, run_with, MayGoOn}
 
 -- The chunks `front` are done, after reads that gave these pieces. Each file that begins with the pieces
--- begins with these chunks, whatever `rest` follows (nothing, where the end was met). The first of them
--- begins on line 1. They have these statements and no fault, and do not end the run. The bytes `left` of the
--- pieces stand after them.
+-- begins with these chunks, whatever `rest` follows (nothing, where the end was met), and goes on with the
+-- chunks of what was left and of the rest. (`BeginsWith` says of one file that it begins with chunks.) The
+-- first of them begins on line 1. They have these statements and no fault, and do not end the run. The bytes
+-- `left` of the pieces stand after them.
 pub record AreDone (run : Run) (pieces front : List (List ℕ)) (statements : List Statement)
     (left : List ℕ) : Type 0 where
   pub bytes_are : concat pieces ≡ concat front ++ left
-  pub chunks_are : (rest : List ℕ) → (IsTrue (ends pieces) → rest ≡ [])
+  pub chunks_are : (rest : List ℕ) → MayFollow (ends pieces) rest
       → chunks (concat pieces ++ rest) ≡ front ++ chunks (left ++ rest)
   pub read : AreStatementsOf run.max_depth 1 front statements None
-  pub none_fails : run.keep_going ≡ false → some_failure run.home run.passes statements ≡ false
+  pub none_fails : MayGoOn run statements
 
 -- After reads that gave these pieces another was needed: none of them met the end of the input (`going`), and
 -- the bytes `left`, which stand after the chunks that are done (`front`), leave the next chunk open.
@@ -34,18 +34,19 @@ pub record IsOneNeeded (run : Run) (max_statement : ℕ) (pieces : List (List �
   pub undecided : IsUndecided max_statement left
 
 -- Each of these reads, made after those that gave `before`, was needed and gave at most 8,192 bytes, the most
--- that one read gives. With the bytes that were left of the reads before it, these are at most 8,192 more
--- than the longest chunk may have.
+-- that one read gives. Its bytes (`piece`) and those that were left of the reads before it (`left`) are
+-- together at most 8,192 more than the longest chunk may have. (`AreNeeded` of bz_devices, in no stop, says of
+-- the reads for one chunk that they were needed.)
 abbrev pub AreNeededAfter : Run → ℕ → List (List ℕ) → List (List ℕ) → Type 0
 AreNeededAfter run most before [] = ⊤
 AreNeededAfter run most before (piece ∷ pieces) = (left : List ℕ) × IsOneNeeded run most before left
     × (length piece ≤ 8192) × (length (left ++ piece) ≤ most + 8192)
     × AreNeededAfter run most (before ++ piece ∷ []) pieces
 
--- The reads of a run gave these pieces: they are no more than it may make, at most one more than there are
--- bytes, and each was needed and no larger than it may be.
+-- The reads of a run gave these pieces: they are no more than it may make, and each was needed and no larger
+-- than it may be. (So they are at most one more than there are bytes, by the law `reads_are_few`: each read
+-- before the last gave a byte.)
 pub record AreReads (home : Package) (passes : Script) (options : Options)
     (pieces : List (List ℕ)) : Type 0 where
   pub within : length pieces ≤ options.max_reads
-  pub few : length pieces ≤ length (concat pieces) + 1
   pub needed : AreNeededAfter (run_with home passes options) options.max_statement [] pieces

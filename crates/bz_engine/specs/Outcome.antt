@@ -1,8 +1,6 @@
 -- What a run over a file gives: the passes one after another on the whole list of its statements, and the
 -- result laid out (buildozer README; what is told, and when a run ends, is this project's own rule).
 -- Begin with `IsOutcome`.
--- Of later stops: 4 `Package`, `Statement`, `Target`, `fault_text`, `meaning`; 5 `Command`, `is_print`; 6
--- `gap_text`, `layout_text`, `lines_between`; 7 `AreStatementsOf`, `IsFile`; 8 `chunks`.
 use Rattle.std.specs.Prelude.{◌≡◌, ◌↔◌, ℕ, Bool, true, false, not, if◌then◌else◌, List, [], ◌∷◌, ◌++◌, map, Option, None, Some, take, filter_map}
 use Rattle.std.specs.List.{list_all, flat_map}
 use Rattle.bz_token.specs.Common.{is_empty}
@@ -28,7 +26,8 @@ abbrev pub Script : Type 0
 Script = List (Pass Target Command)
 
 -- A run is what is to be done to a file: the script in the package `home`, whether it goes on after a failure
--- (buildozer's flag `-k`), and how deep brackets may stand in each other.
+-- (buildozer's flag `-k`), and how deep brackets may stand in each other. Of the options these two alone
+-- count for the outcome. The other two limit what is read: they may stop a run (`Stops`), and change no outcome.
 pub record Run : Type 0 where
   pub home : Package
   pub passes : Script
@@ -73,8 +72,13 @@ module _ (home : Package) (ps : Script) (ss : List Statement) where
   abbrev pub some_failure : Bool
   some_failure = not (is_empty failures)
 
+-- The run may go on after these statements: failures do not end it, or no execution on them fails.
+abbrev pub MayGoOn : Run → List Statement → Type 0
+MayGoOn run statements = run.keep_going ≡ false → some_failure run.home run.passes statements ≡ false
+
 -- What a run tells beside its text: the lines that it prints and the messages, each in order; whether it
--- changed something, whether it failed, and where it ended (`End`, in `src/report.rt`).
+-- changed something, whether it failed, and where it ended (`End`, in `src/report.rt`). The program's `Report`
+-- holds just this; `told_by` takes it from one.
 pub record Told : Type 0 where
   pub lines : List (List ℕ)
   pub messages : List (List ℕ)
@@ -130,12 +134,12 @@ pub data RunEnds (run : Run) (file : List ℕ) (edited : List Statement) (told :
       → told ≡ told_of_failure run.home run.passes s told.changed → RunEnds run file edited told
 
 -- The outcome of a run over a file is the text that is written, and what is told. All executions on the
--- statements `edited` take place, and none of them fails, or failures do not end the run. Something changed
+-- statements `edited` take place, and no failure among them ends the run. Something changed
 -- exactly if an execution on these changes something; a statement at which the run ends does not count.
 pub record IsOutcome (run : Run) (file text : List ℕ) (told : Told) : Type 0 where
   pub edited : List Statement
   pub ends : RunEnds run file edited told
-  pub none_fails : run.keep_going ≡ false → some_failure run.home run.passes edited ≡ false
+  pub none_fails : MayGoOn run edited
   pub text_is : text ≡ text_after run.home run.passes edited
   pub changed : (told.changed ≡ true) ↔ Changes (meaning run.home) run.passes (slots_of edited)
 

@@ -10,7 +10,8 @@ use Rattle.bz_label.specs.Labels.{Package}
 use Rattle.bz_passes.specs.declared.entry.Entry.{Entry}
 use Rattle.bz_passes.specs.Passes.{Slot, slots_after}
 use Rattle.bz_passes.specs.Exchange.{Kept, IsLeftBy, slot_after}
-use Rattle.bz_engine.specs.Language.{meaning, changes, fails_on}
+use Rattle.bz_engine.specs.Language.{meaning}
+use Rattle.bz_engine.specs.Failing.{changes, fails_on}
 use Rattle.bz_engine.specs.File.{AreStatementsOf}
 use Rattle.bz_engine.specs.Outcome.{Script, Run, slots_of, is_query}
 

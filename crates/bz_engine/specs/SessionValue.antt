@@ -1,5 +1,5 @@
 -- What a contract sees of a session, and what its answers say of the file.
-use Rattle.std.specs.Prelude.{◌≡◌, ℕ, ◌+◌, ◌*◌, ◌^◌, ◌≤◌, Bool, true, false, ◌||◌, IsTrue, List, [], ◌∷◌, ◌++◌, length, map, Option, None, option_to_list}
+use Rattle.std.specs.Prelude.{◌≡◌, ℕ, ◌+◌, ◌*◌, ◌^◌, ◌≤◌, Bool, true, false, ◌||◌, List, [], ◌∷◌, ◌++◌, length, map, Option, None, option_to_list}
 use Rattle.std.specs.List.{concat, flat_map}
 use Rattle.bz_token.specs.Chunks.{chunks}
 use Rattle.bz_tree.specs.Tree.{Statement}
@@ -9,7 +9,7 @@ use Rattle.bz_engine.specs.declared.report.End.{End}
 use Rattle.bz_engine.specs.declared.report.End.TheVariants.{Whole, Syntax, FirstFailure}
 use Rattle.bz_engine.specs.declared.session.SessionState.{SessionState}
 use Rattle.bz_engine.specs.declared.session.SessionState.TheVariants.{Going, Ended}
-use Rattle.bz_devices.specs.Device.{ends, NoneEnds}
+use Rattle.bz_devices.specs.Device.{ends, MayFollow, NoneEnds}
 use Rattle.bz_devices.specs.Ahead.{Ahead}
 use Rattle.bz_engine.specs.EveryFile.{ForEveryFile}
 use Rattle.bz_passes.specs.Exchange.{no_slot, told, some_not_found, Fits}
@@ -62,7 +62,7 @@ pub record HasDone (v : SessionValue) (pieces cs : List (List ℕ)) (text : List
   pub none_ends : v.ahead.ended ≡ false → NoneEnds pieces
   pub needed : AreNeededAfter (run_in v) v.options.max_statement [] pieces
   pub few : length v.ahead.bytes ≤ 8192
-  pub first : (rest : List ℕ) → (IsTrue v.ahead.ended → rest ≡ []) → chunks (concat pieces ++ rest) ≡ cs ++ chunks (v.ahead.bytes ++ rest)
+  pub first : (rest : List ℕ) → MayFollow v.ahead.ended rest → chunks (concat pieces ++ rest) ≡ cs ++ chunks (v.ahead.bytes ++ rest)
   pub statements : List Statement
   pub kept : IsKeptOf (run_in v) cs statements v.progress
   pub text_is : text ≡ text_after v.home v.passes statements

@@ -1,6 +1,5 @@
 -- Where a run stops, and what it has done then (this project's own rule).
 -- Begin with `HasEndedAt` and `HasStopped`.
--- Of later stops: 4 `Statement`; 7 `IsAnswerOf`; 8 `chunks`, `line_at`.
 use Rattle.std.specs.Prelude.{◌≡◌, ◌≢◌, ◌⊎◌, ℕ, ◌≤◌, true, false, List, [], ◌∷◌, ◌++◌, length, Some, Ok, Err, ⊤}
 use Rattle.std.specs.List.{concat, AllByRecursion}
 use Rattle.bz_token.specs.Chunks.{chunks}
@@ -26,12 +25,15 @@ pub record ComesNext (max_statement : ℕ) (pieces cs : List (List ℕ)) (chunk 
 
 -- What ends a run when the chunks `cs` are done and a chunk may have `most` bytes, for each end (`End`, in
 -- `src/report.rt`): the file has no other chunk (`Whole`), or the next one has this fault, or an execution
--- fails on the statement of the next one.
+-- fails on the statement of the next one, and failures end the run. `RunEnds` (`Outcome`) names the same ends
+-- by the statements of one file. This adds which chunk ends the run, that it is no longer than it may be, and
+-- that all this holds whatever stands after what was read.
 abbrev pub EndsAfter : Run → ℕ → List (List ℕ) → List (List ℕ) → End → Type 0
 EndsAfter run most pieces cs Whole = ForEveryFile pieces (λ file. chunks file ≡ cs)
 EndsAfter run most pieces cs (Syntax fault) = (chunk : List ℕ) × ComesNext most pieces cs chunk
     × IsAnswerOf run.max_depth (line_at 1 (concat cs)) chunk (Err fault)
-EndsAfter run most pieces cs FirstFailure = (chunk : List ℕ) × ComesNext most pieces cs chunk
+EndsAfter run most pieces cs FirstFailure = (run.keep_going ≡ false)
+    × (chunk : List ℕ) × ComesNext most pieces cs chunk
     × (s : Statement) × IsAnswerOf run.max_depth (line_at 1 (concat cs)) chunk (Ok (Some s))
     × (some_failure run.home run.passes (s ∷ []) ≡ true)
 
@@ -50,7 +52,8 @@ pub record HasEndedAt (run : Run) (max_statement : ℕ) (pieces : List (List ℕ
   pub fit : AllFit max_statement front
   pub last : EndsAfter run max_statement pieces front end
 
--- Another read is needed: no read met the end of the input, and the bytes ahead leave the next chunk open.
+-- Another read is needed: no read met the end of the input, and the bytes ahead leave the next chunk open. This
+-- is told by the bytes ahead alone; `IsOneNeeded` names the chunks before them too, and all reads that were made.
 pub record NeedsRead (max_statement : ℕ) (ahead : Ahead) : Type 0 where
   pub going : ahead.ended ≡ false
   pub undecided : IsUndecided max_statement ahead.bytes
@@ -96,7 +99,8 @@ pub record IsStopped (run : Run) (options : Options) (pieces : List (List ℕ)) 
   pub tells : Tells options (line_at 1 (concat front))
       (record { bytes = left; reads = length pieces; ended = ends pieces }) fault
 
--- A fault stopped the run so (`IsStopped`), and none of the chunks that are done is too long.
+-- A fault stopped the run so (`IsStopped`), and none of the chunks that are done is too long. (bz_laws says
+-- `IsStopped` alone, of sessions.)
 abbrev pub HasStopped : Run → Options → List (List ℕ) → List ℕ → RunFault → Type 0
 HasStopped run options pieces text fault =
     (stopped : IsStopped run options pieces text fault) × AllFit options.max_statement stopped.front

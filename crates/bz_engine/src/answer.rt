@@ -24,9 +24,9 @@ pub(crate) struct Unchanged<'t> {
     pub(crate) line: Option<&'t str>,
 }
 
-/// Whether it may be known what the command makes of a rule whose text is known.
+/// Whether it may be known what the command makes of a rule whose text is known. That does not tell several fields.
 pub(crate) fn is_answerable(command: &Command) -> bool {
-    printed_by(command).is_some()
+    matches!(printed_by(command), Some([_]))
         || looked_at(command).is_some()
         || one_attribute(command).is_some()
         || renamed_by(command).is_some()

@@ -1,23 +1,27 @@
 //! What a command makes of the lines of an argument, which is not read. `marked_rule.rt` calls `execute_on_lines` for a
 //! rule of which it edits one argument.
 
-ghost use Rattle.std.specs.Prelude.{◌≡◌, ◌++◌, ◌∷◌, [], IfOk, IfSome, IsTrue, OnOk, false, true};
-ghost use Rattle.bz_canonical.specs.Added.{LacksInLines};
-ghost use Rattle.bz_canonical.specs.Canonical.{argument_lines, between, read_alone};
+ghost use Rattle.std.specs.Prelude.{◌≡◌, IfOk, IfSome, IsTrue, false, true};
+ghost use Rattle.bz_canonical.specs.Added.{AreInLines};
+ghost use Rattle.bz_canonical.specs.Canonical.{between, read_alone};
 ghost use Rattle.bz_label.specs.declared.arguments.Attributes.TheVariants.{Named};
 ghost use Rattle.bz_label.specs.declared.arguments.Commented.TheVariants.{Attribute};
 ghost use Rattle.bz_rule.specs.declared.command.Action.TheVariants.{Add, Comment, Remove, Replace};
-ghost use Rattle.bz_engine.specs.private.ArgumentEdits.{AddsArgument, EditsLines, EditsList, EditsPlace, list_argument};
+ghost use Rattle.bz_engine.specs.private.ArgumentEdits.{AddsArgument, EditsLines, EditsList, EditsPlace};
+ghost use Rattle.bz_token.specs.Common.{is_empty};
+ghost use Rattle.bz_label.specs.Labels.{Package};
 
 use crate::edit::ScriptRun;
 use bz_attribute::Env;
-use bz_canonical::{ArgumentPlace, EditedList, lacks, put_added, put_removed, put_replaced};
-use bz_label::quote;
+use bz_canonical::{
+    ArgumentPlace, EditedList, lacks, put_added, put_new_list, put_removed, put_replaced,
+};
 use bz_memory::{NoMemory, extend_from_slice};
-use bz_rule::Command;
 use bz_rule::commands::argument::put_argument;
-use bz_rule::forms::{ListValue, ReplacedValue, added_by, removed_by, replaced_by, set_by};
+use bz_rule::forms::{AttributeValues, ReplacedValue, added_by, removed_by, replaced_by, set_by};
+use bz_rule::{Command, Text};
 use std::alloc::Global;
+use std::slice::from_ref;
 
 /// What a command makes of an argument.
 #[derive(Clone, Copy)]
@@ -29,6 +33,9 @@ pub(crate) enum EditedArgument<'s> {
 
 // More bytes are not worth a copy.
 const LONGEST: usize = 1 << 16;
+
+// More values are not compared with each element.
+const MOST: usize = 8;
 
 /// Whether the argument of this place has many lines, which are not worth a copy.
 pub(crate) fn is_long(place: Option<ArgumentPlace<'_>>) -> bool {
@@ -87,14 +94,14 @@ pub(crate) fn execute_on_lines<'s>(
         }
         _ => {}
     }
-    if place.lines.is_empty() && put_new(script.alloc, command, laid)? {
+    if place.lines.is_empty() && put_new(script, command, laid)? {
         return Ok(Some(EditedArgument::Lines(laid.as_slice())));
     }
     Ok(None)
 }
 
-/// What the command makes of the argument that has these lines, where it adds one value to a list of strings, removes
-/// one, or replaces one. None: it may be another command, or another argument. Without `Written` nothing is said of the
+/// What the command makes of the argument that has these lines, where it adds values to a list of strings, removes some,
+/// or replaces one. None: it may be another command, or another argument. Without `Written` nothing is said of the
 /// buffer's bytes.
 fn execute_on_list(
     script: ScriptRun<'_>,
@@ -106,11 +113,7 @@ fn execute_on_list(
         (read_alone script.entry.max_depth script.entry.home.now lines.now) written.old.items written.new.items)) }
 {
     if let Some(new) = added_by(command) {
-        let env = Env {
-            alloc: script.alloc,
-            home: script.home,
-        };
-        return put_added(env, lines, new, script.max_depth, written);
+        return execute_add(script, new, lines, written);
     }
     if let Some(old) = removed_by(command) {
         return execute_remove(script, old, lines, written);
@@ -121,18 +124,42 @@ fn execute_on_list(
     }
 }
 
-/// What `remove` of one value makes of the argument that has these lines. None: it is no list of strings that can be
-/// edited on its lines. Without `Written` nothing is said of the buffer's bytes.
-fn execute_remove(
+/// What `add` makes of the argument that has these lines. None: it is no list of strings that can be edited on its
+/// lines, or that is too much to do. Without `Written` nothing is said of the buffer's bytes.
+fn execute_add(
     script: ScriptRun<'_>,
-    old: ListValue<'_>,
+    new: AttributeValues<'_>,
     lines: &str,
     written: &mut Vec<u8>,
 ) -> Result<Option<EditedList>, NoMemory>
-    ensures { IfOk result (λ known. IfSome known (EditsList
-        (Remove (Named old.entry.attr.now) (old.entry.value.now ∷ []))
+    ensures { IfOk result (λ known. IfSome known (EditsList (Add new.entry.attr.now new.entry.values.now)
         (read_alone script.entry.max_depth script.entry.home.now lines.now) written.old.items written.new.items)) }
 {
+    if are_many(new.values, lines) {
+        return Ok(None);
+    }
+    let env = Env {
+        alloc: script.alloc,
+        home: script.home,
+    };
+    put_added(env, lines, new, script.max_depth, written)
+}
+
+/// What `remove` of values makes of the argument that has these lines. None: it is no list of strings that can be edited
+/// on its lines, or that is too much to do. Without `Written` nothing is said of the buffer's bytes.
+fn execute_remove(
+    script: ScriptRun<'_>,
+    old: AttributeValues<'_>,
+    lines: &str,
+    written: &mut Vec<u8>,
+) -> Result<Option<EditedList>, NoMemory>
+    requires { is_empty old.values.now ≡ false }
+    ensures { IfOk result (λ known. IfSome known (EditsList (Remove (Named old.entry.attr.now) old.entry.values.now)
+        (read_alone script.entry.max_depth script.entry.home.now lines.now) written.old.items written.new.items)) }
+{
+    if are_many(old.values, lines) {
+        return Ok(None);
+    }
     if lacks_in_few_lines(script, old, lines) {
         return Ok(Some(EditedList::Unchanged));
     }
@@ -151,9 +178,9 @@ fn execute_replace(
         (Replace (Named replaced.entry.attr.now) replaced.entry.old.now replaced.entry.new.now)
         (read_alone script.entry.max_depth script.entry.home.now lines.now) written.old.items written.new.items)) }
 {
-    let old = ListValue {
+    let old = AttributeValues {
         attr: replaced.attr,
-        value: replaced.old,
+        values: from_ref(replaced.old),
     };
     if lacks_in_few_lines(script, old, lines) {
         return Ok(Some(EditedList::Unchanged));
@@ -165,49 +192,47 @@ fn execute_replace(
     put_replaced(env, lines, replaced, script.max_depth, written)
 }
 
-/// These lines are few, and have a list that lacks the value. Most lists lack it, and of these nothing has to be
+/// There are several values, and too many to compare each with each element of these lines.
+fn are_many(values: &[Text], lines: &str) -> bool {
+    let count = values.len();
+    count > 1 && (count > MOST || lines.len() > LONGEST / count)
+}
+
+/// These lines are few, and have a list that lacks the values. Most lists lack them, and of these nothing has to be
 /// written; a long one is gone over once.
-fn lacks_in_few_lines(script: ScriptRun<'_>, sought: ListValue<'_>, lines: &str) -> bool
+fn lacks_in_few_lines(script: ScriptRun<'_>, sought: AttributeValues<'_>, lines: &str) -> bool
     ensures { IsTrue result
-        → LacksInLines (read_alone script.entry.max_depth script.entry.home.now lines.now) sought.entry }
+        → AreInLines (read_alone script.entry.max_depth script.entry.home.now lines.now) sought.entry false }
 {
     lines.len() <= LONGEST && lacks(script.home, lines, sought, script.max_depth)
 }
 
 /// The lines of the argument that the command adds where none has its name. False: they are not easily written.
-fn put_new(alloc: Global, command: &Command, lines: &mut Vec<u8>) -> Result<bool, NoMemory>
-    ensures { IfOk result (λ put. IsTrue put → AddsArgument command.now lines.new.items) }
+fn put_new(script: ScriptRun<'_>, command: &Command, lines: &mut Vec<u8>) -> Result<bool, NoMemory>
+    ensures { IfOk result (λ put. IsTrue put → AddsArgument command.now script.entry.home.now lines.new.items) }
 {
     let Some(new) = added_by(command) else {
-        return put_set(alloc, command, lines);
+        return put_set(script.alloc, command, lines);
     };
+    if are_many(new.values, "") {
+        return Ok(false);
+    }
     lines.clear();
-    put_list(alloc, new, lines)?;
-    Ok(true)
+    let env = Env {
+        alloc: script.alloc,
+        home: script.home,
+    };
+    put_new_list(env, new, lines)
 }
 
 /// The lines of the argument that `set` or `set_if_absent` adds where none has its name. False: the command is another,
 /// or they are not easily written.
 fn put_set(alloc: Global, command: &Command, lines: &mut Vec<u8>) -> Result<bool, NoMemory>
-    ensures { IfOk result (λ put. IsTrue put → AddsArgument command.now lines.new.items) }
+    ensures { IfOk result (λ put. IsTrue put → (home : Package) → AddsArgument command.now home lines.new.items) }
 {
     let Some(new) = set_by(command) else {
         return Ok(false);
     };
     lines.clear();
     put_argument(alloc, new.attr, new.values, lines)
-}
-
-/// Writes an argument whose value is a list of one string.
-fn put_list(alloc: Global, new: ListValue<'_>, out: &mut Vec<u8>) -> Result<(), NoMemory>
-    ensures { OnOk result
-        (out.new.items ≡ out.old.items ++ argument_lines (list_argument new.entry.attr.now new.entry.value.now ∷ [])) }
-{
-    let value = quote(alloc, new.value)?;
-    extend_from_slice(out, b"\n    ")?;
-    extend_from_slice(out, new.attr.as_bytes())?;
-    extend_from_slice(out, b" = [")?;
-    extend_from_slice(out, value.as_bytes())?;
-    extend_from_slice(out, b"],")?;
-    Ok(())
 }

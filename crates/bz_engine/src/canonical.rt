@@ -9,7 +9,8 @@ ghost use Rattle.bz_canonical.specs.Canonical.{HasName, HasPlace, IsCanonical, b
 ghost use Rattle.bz_canonical.specs.Spans.{HasSpans};
 ghost use Rattle.bz_passes.specs.Exchange.{Fits, IsPassedBy};
 ghost use Rattle.bz_devices.specs.Ahead.{IsFewAfter};
-ghost use Rattle.bz_engine.specs.Language.{meaning, changes, fails_on};
+ghost use Rattle.bz_engine.specs.Language.{meaning};
+ghost use Rattle.bz_engine.specs.Failing.{changes, fails_on};
 ghost use Rattle.bz_engine.specs.private.Edits.{DoesNothing, EditsWhole, run_of};
 ghost use Rattle.bz_engine.specs.private.Found.{HasItsSpans, IsFound, IsForOne};
 ghost use Rattle.bz_engine.specs.private.Named.{IsNamePassedBy};

@@ -111,7 +111,8 @@ fn edit_row<'a>(
     requires row { (s : Statement) × IsOfRow s row }
     ensures fits { OnOk result (Fits progress.new.kept script.entry.passes.now) }
     ensures scripted { IfOk result (λ scripted. (s : Statement) → IsOfRow s row.entry
-        → IsScripted (run_of script.entry) s progress.old progress.new text.old.items text.new.items scripted) }
+        → IsScripted (run_of script.entry) s progress.old progress.new
+        text.old.items text.new.items scripted) }
 {
     let head = Head::of_row(script.alloc, script.bump, &row)?;
     if is_passed_by(script, head) {
@@ -132,7 +133,8 @@ pub(crate) fn edit_slot<'a>(
     requires { Fits progress.old.kept script.passes.now }
     ensures fits { OnOk result (Fits progress.new.kept script.entry.passes.now) }
     ensures scripted { IfOk result (λ scripted. (s : Statement) → slot.old ≡ Some s
-        → IsScripted (run_of script.entry) s progress.old progress.new text.old.items text.new.items scripted) }
+        → IsScripted (run_of script.entry) s progress.old progress.new
+        text.old.items text.new.items scripted) }
 {
     let rules = Rules {
         alloc: script.alloc,
@@ -158,7 +160,8 @@ pub(crate) fn edit_slot<'a>(
 
 /// The message of the first failure that was told, by pass and command.
 fn first_failure(alloc: Global, kept: &[Kept]) -> Result<Option<Text>, NoMemory>
-    ensures { IfOk result (λ message. option_to_list message ≡ take 1 (flat_map failure_text (log_alone kept.now))) }
+    ensures { IfOk result (λ message. option_to_list message
+        ≡ take 1 (flat_map failure_text (log_alone kept.now))) }
 {
     for pass in kept {
         if let Some(message) = first_in_pass(pass) {

@@ -38,7 +38,8 @@ pub(crate) fn message_by_text(
     command: &Command,
     found: &Found<'_>,
 ) -> Result<Option<Message>, NoMemory>
-    ensures { IfOk result (λ known. IfSome known (TellsRule script.entry.keep_going command.now script.entry.home.now
+    ensures { IfOk result (λ known. IfSome known
+        (TellsRule script.entry.keep_going command.now script.entry.home.now
         found.now)) }
 {
     match found.chunk.kind {
@@ -53,7 +54,8 @@ fn missing_by_text(
     command: &Command,
     found: &Found<'_>,
 ) -> Result<Option<Message>, NoMemory>
-    ensures { IfOk result (λ known. IfSome known (TellsRule script.entry.keep_going command.now script.entry.home.now
+    ensures { IfOk result (λ known. IfSome known
+        (TellsRule script.entry.keep_going command.now script.entry.home.now
         found.now)) }
 {
     let Some(kind) = found.chunk.kind else {
@@ -102,7 +104,8 @@ fn failure_by_text(
     command: &Command,
     found: &Found<'_>,
 ) -> Result<Option<Message>, NoMemory>
-    ensures { IfOk result (λ known. IfSome known (TellsRule script.entry.keep_going command.now script.entry.home.now
+    ensures { IfOk result (λ known. IfSome known
+        (TellsRule script.entry.keep_going command.now script.entry.home.now
         found.now)) }
 {
     if !script.keep_going {
@@ -127,7 +130,8 @@ fn failure_by_text(
 
 /// What is told of a rule of this name that has no such attribute.
 fn no_attribute(alloc: Global, home: &Package, name: &str, attr: &str) -> Result<Entry, NoMemory>
-    ensures { IfOk result (λ entry. entry ≡ note_entry (home_text home.now ++ name.now) (NoAttribute attr.now)) }
+    ensures { IfOk result (λ entry. entry
+        ≡ note_entry (home_text home.now ++ name.now) (NoAttribute attr.now)) }
 {
     let mut rule = String::new(alloc);
     push_home(&mut rule, home)?;

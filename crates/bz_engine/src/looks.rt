@@ -34,7 +34,7 @@ pub(crate) struct Looks {
 }
 
 impl Looks {
-    /// None so far.
+    /// Before the first chunk: no look was made.
     pub(crate) fn new() -> Looks {
         Looks {
             in_vain: 0,

@@ -2,7 +2,7 @@
 
 ghost use Rattle.std.specs.Prelude.{◌≡◌, IfOk, None, Some, bytes_eq, if◌then◌else◌, map};
 ghost use Rattle.std.specs.List.{position};
-ghost use Rattle.bz_token.specs.Lexical.{is_one_of};
+ghost use Rattle.bz_token.specs.Common.{is_one_of};
 ghost use Rattle.bz_engine.specs.private.Sealed as spec;
 
 use bz_label::Text;
@@ -46,7 +46,7 @@ fn add_passes(
     Ok(true)
 }
 
-/// The same of commands.
+/// Adds the attributes that the commands mention. False: the names are of no use.
 fn add_commands(
     alloc: Global,
     names: &mut Vec<Text>,
@@ -63,7 +63,7 @@ fn add_commands(
     Ok(true)
 }
 
-/// The same of one command.
+/// Adds the attributes that a command mentions. False: the names are of no use.
 fn add_command(alloc: Global, names: &mut Vec<Text>, command: &Command) -> Result<bool, NoMemory>
     ensures { IfOk result (λ all. spec.with_command names.old.items command.now
         ≡ (if all then Some names.new.items else None)) }
@@ -76,7 +76,8 @@ fn add_command(alloc: Global, names: &mut Vec<Text>, command: &Command) -> Resul
 
 /// Adds names, each that is not there.
 fn add_names(alloc: Global, names: &mut Vec<Text>, more: &[&str]) -> Result<bool, NoMemory>
-    ensures { IfOk result (λ all. spec.by_each spec.with_name names.old.items (map (λ name. name.now) more.now)
+    ensures { IfOk result (λ all. spec.by_each spec.with_name names.old.items
+        (map (λ name. name.now) more.now)
         ≡ (if all then Some names.new.items else None)) }
 {
     for name in more {

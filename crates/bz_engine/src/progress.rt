@@ -48,7 +48,13 @@ impl Model for Progress {
     ghost Value = { spec.Progress };
 
     ghost view = { λ p.
-        record { kept = p.kept.items; changed = p.changed; failed = p.failed; last = p.last; line = p.line } };
+        record {
+          kept = p.kept.items;
+          changed = p.changed;
+          failed = p.failed;
+          last = p.last;
+          line = p.line;
+        } };
 }
 
 impl Progress {
@@ -193,14 +199,16 @@ impl Progress {
 /// The one command of a pass ran on one statement more, which the pass marked, and this line was told of it.
 fn keep_line(kept: &mut Kept, line: Option<&str>) -> Result<(), NoMemory>
     requires { length kept.old.logs ≡ 1 }
-    ensures { OnOk result (kept.new ≡ pass_and kept.old (one_told (option_map (λ text. text.now) line.entry))) }
+    ensures { OnOk result (kept.new
+        ≡ pass_and kept.old (one_told (option_map (λ text. text.now) line.entry))) }
 {
     kept.found = true;
     log_line(line, &mut kept.logs[0])
 }
 
 fn log_line(line: Option<&str>, log: &mut Log) -> Result<(), NoMemory>
-    ensures { OnOk result (log.new ≡ log.old ++ map Line (option_to_list (option_map (λ text. text.now) line.entry))) }
+    ensures { OnOk result (log.new ≡ log.old
+        ++ map Line (option_to_list (option_map (λ text. text.now) line.entry))) }
 {
     if let Some(line) = line {
         log.push_line(line)?;

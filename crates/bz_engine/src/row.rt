@@ -4,7 +4,8 @@ ghost use Rattle.std.specs.Prelude.{◌≡◌, Some, IsTrue, true};
 ghost use Rattle.bz_tree.specs.Tree.{Statement};
 ghost use Rattle.bz_passes.specs.Exchange.{IsPassedBy};
 ghost use Rattle.bz_attribute.specs.Heads.{HasHead, IsHeadOf};
-ghost use Rattle.bz_engine.specs.Language.{meaning, changes, fails_on};
+ghost use Rattle.bz_engine.specs.Language.{meaning};
+ghost use Rattle.bz_engine.specs.Failing.{changes, fails_on};
 ghost use Rattle.bz_engine.specs.private.Rows as spec;
 
 use crate::edit::ScriptRun;
@@ -21,7 +22,8 @@ const MOST: usize = 8;
 /// No pass of the script may mark the statement of this head.
 pub(crate) fn is_passed_by(script: ScriptRun<'_>, head: Option<Head<'_>>) -> bool
     ensures { IsTrue result → (s : Statement) → HasHead head.entry s
-        → IsPassedBy (meaning script.entry.home.now) (changes script.entry.home.now) (fails_on script.entry.home.now)
+        → IsPassedBy (meaning script.entry.home.now) (changes script.entry.home.now)
+        (fails_on script.entry.home.now)
         script.entry.passes.now (Some s) }
 {
     if !script.passes.ask_for_names() {

@@ -165,7 +165,8 @@ impl RulePasses {
 
     /// The attribute whose argument is to be looked for in a rule. None: there is none.
     pub(crate) fn asked_attribute(&self) -> Option<AskedAttribute<'_>>
-        ensures { IfSome result (λ asked. position (λ name. bytes_eq name asked.name.now) (asked_names self.now)
+        ensures { IfSome result (λ asked. position (λ name. bytes_eq name asked.name.now)
+            (asked_names self.now)
             ≡ Some asked.at) }
     {
         let name = self.attr.as_str();

@@ -2,7 +2,7 @@
 
 ghost use Rattle.std.specs.Prelude.{◌≡◌, [], ◌∷◌, ◌++◌, map, Option, option_to_list, IfOk, OnOk, string_bytes};
 ghost use Rattle.bz_tree.specs.Tree.{Statement};
-ghost use Rattle.bz_engine.specs.Language.{has_failure, note_told};
+ghost use Rattle.bz_engine.specs.Failing.{has_failure, note_told};
 ghost use Rattle.bz_engine.specs.Messages.{note_entry};
 ghost use Rattle.bz_passes.specs.declared.entry.Entry.TheVariants.{Line};
 ghost use Rattle.bz_attribute.specs.Texts.{shown_text};
@@ -32,7 +32,8 @@ impl<'a> Language for Rules<'a> {
 
     type Command = Command;
 
-    ghost use Rattle.bz_engine.specs.Language.{meaning, changes, fails_on};
+    ghost use Rattle.bz_engine.specs.Language.{meaning};
+    ghost use Rattle.bz_engine.specs.Failing.{changes, fails_on};
 
     ghost Seen = { Statement };
 

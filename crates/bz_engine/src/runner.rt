@@ -52,8 +52,10 @@ pub fn run<S: Source, W: Sink>(
         × S.gave source.old pieces source.new × W.took sink.old text sink.new }
     ensures steady { (result ≢ Err RunFault.ReadFailed → S.failures source.new ≡ S.failures source.old)
         × (result ≢ Err RunFault.WriteFailed → W.failures sink.new ≡ W.failures sink.old) }
-    ensures read_failed { IsErrOf result RunFault.ReadFailed → Rises (S.failures source.old) (S.failures source.new) }
-    ensures write_failed { IsErrOf result RunFault.WriteFailed → Rises (W.failures sink.old) (W.failures sink.new) }
+    ensures read_failed { IsErrOf result RunFault.ReadFailed
+        → Rises (S.failures source.old) (S.failures source.new) }
+    ensures write_failed { IsErrOf result RunFault.WriteFailed
+        → Rises (W.failures sink.old) (W.failures sink.new) }
     // That many reads were made, none of them the end, and another was needed after these bytes.
     ensures too_long { IsErrOf result RunFault.InputTooLong → (pieces : List (List ℕ)) × (left : List ℕ)
         × S.gave source.old pieces source.new × (length pieces ≡ options.max_reads)

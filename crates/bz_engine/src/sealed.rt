@@ -52,7 +52,7 @@ pub(crate) fn edit_sealed(
     edit_noted(script, found, noted, progress, text)
 }
 
-/// The same, where some pass may mark the rule.
+/// Runs the script on a rule that was noted, which some pass may mark. None, with nothing done: the rule is to be read.
 #[inline(never)]
 fn edit_noted(
     script: ScriptRun<'_>,
@@ -87,7 +87,8 @@ fn edit_if_made<'a>(
     requires { Fits progress.old.kept script.passes.now }
     ensures fits { OnOk result (Fits progress.new.kept script.entry.passes.now) }
     ensures some { IfOk result (λ answer. IfSome answer (λ scripted. (t : Statement) × (made.entry ≡ Some t)
-        × IsScripted (run_of script.entry) t progress.old progress.new text.old.items text.new.items scripted)) }
+        × IsScripted (run_of script.entry) t progress.old progress.new
+        text.old.items text.new.items scripted)) }
     ensures none { IfOk result (λ answer. IfNone answer
         (DoesNothing progress.old progress.new text.old.items text.new.items)) }
 {

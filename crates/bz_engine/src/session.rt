@@ -85,10 +85,26 @@ impl Model for Session {
     ghost Value = { spec.SessionValue };
 
     ghost view = { λ s.
-        record { home = s.home; passes = s.passes; options = s.options; progress = s.progress; ahead = s.ahead; state = s.state; failure = s.failure } };
+        record {
+          home = s.home;
+          passes = s.passes;
+          options = s.options;
+          progress = s.progress;
+          ahead = s.ahead;
+          state = s.state;
+          failure = s.failure;
+        } };
 
     ghost invariant = { λ s. spec.IsSession
-        (record { home = s.home; passes = s.passes; options = s.options; progress = s.progress; ahead = s.ahead; state = s.state; failure = s.failure }) };
+        (record {
+          home = s.home;
+          passes = s.passes;
+          options = s.options;
+          progress = s.progress;
+          ahead = s.ahead;
+          state = s.state;
+          failure = s.failure;
+        }) };
 }
 
 impl Session {
@@ -165,7 +181,8 @@ impl Session {
             → (result ≡ Err RunFault.Stopped) × (source.new ≡ source.old) × (sink.new ≡ sink.old) }
         // Nor once it has ended, and it stays as it is.
         ensures ended { (end : _) → self.old.state ≡ Ended end
-            → (result ≡ Ok Step.End) × (self.new ≡ self.old) × (source.new ≡ source.old) × (sink.new ≡ sink.old) }
+            → (result ≡ Ok Step.End) × (self.new ≡ self.old) × (source.new ≡ source.old)
+            × (sink.new ≡ sink.old) }
         // Else it takes one chunk, comes to the end or answers a fault.
         ensures steps { self.old.state ≡ Going → Steps (reader S.gave S.failures source.old source.new)
             (writer W.took W.failures sink.old sink.new) self.old self.new result }
@@ -184,7 +201,8 @@ impl Session {
         ensures report { (end : _) → self.state ≡ Ended end
             → IfOk result (λ report. told_by report ≡ told_at self end) }
         // Where it has ended, only a lack of memory keeps the report back; else it is refused.
-        ensures memory { (end : _) → self.state ≡ Ended end → OnErr result (result ≡ Err (RunFault.OutOfMemory no_memory)) }
+        ensures memory { (end : _) → self.state ≡ Ended end
+            → OnErr result (result ≡ Err (RunFault.OutOfMemory no_memory)) }
         ensures stopped { ((end : _) → self.state ≢ Ended end) → result ≡ Err RunFault.Stopped }
     {
         self.take_report()
@@ -194,7 +212,8 @@ impl Session {
     fn take_report(&mut self) -> Result<Report, RunFault>
         ensures report { (end : _) → self.old.state ≡ Ended end
             → IfOk result (λ report. told_by report ≡ told_at self.old end) }
-        ensures memory { (end : _) → self.old.state ≡ Ended end → OnErr result (result ≡ Err (RunFault.OutOfMemory no_memory)) }
+        ensures memory { (end : _) → self.old.state ≡ Ended end
+            → OnErr result (result ≡ Err (RunFault.OutOfMemory no_memory)) }
         ensures stopped { ((end : _) → self.old.state ≢ Ended end) → result ≡ Err RunFault.Stopped }
     {
         let SessionState::Ended(end) = self.state else {
@@ -455,7 +474,7 @@ impl Session {
         }
     }
 
-    /// The same, where the chunk is read (`next_chunk.rt`).
+    /// Reads the first chunk of the text ahead, and runs the script on it (`next_chunk.rt`).
     #[inline(never)]
     fn read_and_edit(&mut self, text: &mut Vec<u8>) -> Result<Option<NextChunk>, NoMemory>
         requires stopped { self.old.state ≡ Stopped }
@@ -500,7 +519,8 @@ impl Session {
             (self.new ≡ record self.old { ahead = record self.old.ahead { bytes = drop len self.old.ahead.bytes } }) }
         ensures same { OnErr result (self.new ≡ self.old) }
         ensures ok { OnOk result (W.took sink.old text.now sink.new) }
-        ensures front { OnErr result ((n : ℕ) × (n < length text.now) × W.took sink.old (take n text.now) sink.new) }
+        ensures front { OnErr result ((n : ℕ) × (n < length text.now)
+            × W.took sink.old (take n text.now) sink.new) }
         ensures devices { (shown : List ℕ) × W.took sink.old shown sink.new }
         ensures steady { OnOk result (W.failures sink.new ≡ W.failures sink.old) }
         ensures fault { OnErr result (result ≡ Err RunFault.WriteFailed) }
@@ -571,7 +591,8 @@ fn find_chunk<S: Source>(
     requires made { ahead.old.reads ≤ search.options.max_reads }
     requires few { IsFewAfter ahead.old }
     requires bound { length ahead.old.bytes ≤ search.options.max_statement + 8192 }
-    ensures finds { Finds S.gave S.failures search.options search.line source.old source.new ahead.old ahead.new result }
+    ensures finds { Finds S.gave S.failures search.options search.line
+        source.old source.new ahead.old ahead.new result }
     ensures chunk { IfOk result (λ found. IfSome found (IsNextChunk search.options.max_statement ahead.new)) }
     ensures none { IfOk result (λ found. IfNone found ((ahead.new.bytes ≡ []) × IsTrue ahead.new.ended)) }
 {
@@ -593,7 +614,8 @@ fn read_short<S: Source>(
     requires few { IsFewAfter ahead.old }
     requires bound { length ahead.old.bytes ≤ options.max_statement + 8192 }
     ensures same { progress.new ≡ progress.old }
-    ensures finds { Finds S.gave S.failures options progress.old.line source.old source.new ahead.old ahead.new result }
+    ensures finds { Finds S.gave S.failures options progress.old.line
+        source.old source.new ahead.old ahead.new result }
     ensures few { OnOk result (IsFewAfter ahead.new) }
 {
     if !progress.is_likely_short(ahead.bytes()) {
@@ -612,7 +634,8 @@ fn read_more<S: Source>(ahead: &mut Ahead, source: &mut S, search: Search) -> Re
     requires made { ahead.old.reads ≤ search.options.max_reads }
     requires few { IsFewAfter ahead.old }
     requires bound { length ahead.old.bytes ≤ search.options.max_statement + 8192 }
-    ensures finds { Finds S.gave S.failures search.options search.line source.old source.new ahead.old ahead.new result }
+    ensures finds { Finds S.gave S.failures search.options search.line
+        source.old source.new ahead.old ahead.new result }
     ensures few { OnOk result (IsFewAfter ahead.new) }
     ensures fitting { (at : ℕ) → result ≢ Err (RunFault.StatementTooLong at) }
 {

@@ -24,7 +24,8 @@ pub(crate) fn report_of_all(
     progress: &mut Progress,
 ) -> Result<Report, NoMemory>
     requires { Fits progress.old.kept passes.now }
-    ensures { IfOk result (λ report. told_by report ≡ told_of_progress rules.entry.home.now passes.now progress.old) }
+    ensures { IfOk result (λ report. told_by report
+        ≡ told_of_progress rules.entry.home.now passes.now progress.old) }
 {
     let kept = progress.kept.as_mut_slice();
     let failed = progress.failed || is_some_not_found(&rules, passes, kept);
@@ -67,7 +68,8 @@ pub(crate) fn report_of_fault(
     fault: SyntaxFault,
     changed: bool,
 ) -> Result<Report, NoMemory>
-    ensures { IfOk result (λ report. told_by report ≡ told_alone (fault_text fault ∷ []) changed (End.Syntax fault)) }
+    ensures { IfOk result (λ report. told_by report
+        ≡ told_alone (fault_text fault ∷ []) changed (End.Syntax fault)) }
 {
     let message = message::fault_text(alloc, fault)?;
     report_of_one(alloc, Some(message), changed, End::Syntax(fault))

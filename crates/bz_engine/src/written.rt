@@ -48,9 +48,11 @@ pub(crate) fn put_canonical(
     text: &mut Vec<u8>,
 ) -> Result<(), NoMemory>
     ensures last { OnOk result (progress.new ≡ record progress.old { last = Some found.entry.class }) }
-    ensures text { OnOk result ((s : Statement) → s.class ≡ found.entry.class → layout_text s ≡ found.entry.written.now
+    ensures text { OnOk result ((s : Statement) → s.class ≡ found.entry.class
+        → layout_text s ≡ found.entry.written.now
         → text.new.items ≡ text.old.items
-        ++ (if is_query script.entry.passes.now then [] else text_following progress.old.last (Some s ∷ []))) }
+        ++ (if is_query script.entry.passes.now then []
+        else text_following progress.old.last (Some s ∷ []))) }
 {
     if begin_statement(script, found.class, progress, text)? {
         extend_from_slice(text, found.written.as_bytes())?;
@@ -67,7 +69,8 @@ pub(crate) fn put_passed(
 ) -> Result<(), NoMemory>
     ensures last { OnOk result (progress.new ≡ record progress.old { last = Some row.now.class }) }
     ensures text { OnOk result ((s : Statement) → IsRowOf s row.now → text.new.items ≡ text.old.items
-        ++ (if is_query script.entry.passes.now then [] else text_following progress.old.last (Some s ∷ []))) }
+        ++ (if is_query script.entry.passes.now then []
+        else text_following progress.old.last (Some s ∷ []))) }
 {
     if begin_statement(script, row.class, progress, text)? {
         put_row(row, text)?;
@@ -85,7 +88,8 @@ pub(crate) fn put_slot(
     ensures last { OnOk result
         (progress.new ≡ record progress.old { last = last_class progress.old.last (slot.now ∷ []) }) }
     ensures text { OnOk result (text.new.items ≡ text.old.items
-        ++ (if is_query script.entry.passes.now then [] else text_following progress.old.last (slot.now ∷ []))) }
+        ++ (if is_query script.entry.passes.now then []
+        else text_following progress.old.last (slot.now ∷ []))) }
 {
     let Some(stmt) = slot else {
         return Ok(());

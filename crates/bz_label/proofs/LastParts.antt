@@ -4,8 +4,8 @@ use Rattle.std.specs.Prelude.{◌==◌, ◌||◌, ◌&&◌, nat_eq, codes, Optio
 use Rattle.std.specs.List.{list_any, onto_first, starts_with}
 use Rattle.std.proofs.lemmas.Bool.{cases_Bool}
 use Rattle.std.proofs.Math.Bool.{or-true}
-use Rattle.bz_label.specs.Labels.{Package, last_of, parts_of, is_slash, is_colon}
-use Rattle.bz_label.specs.Same.{completed, in_package, with_name}
+use Rattle.bz_label.specs.Labels.{Package, last_part, parts_of, is_slash, is_colon, in_package}
+use Rattle.bz_label.specs.Same.{completed, with_name}
 use Rattle.bz_label.specs.private.ByteSteps.{left}
 use Rattle.bz_label.specs.private.LabelSteps.{rest_after}
 use Rattle.bz_label.specs.declared.bytes.Bytes.{Bytes}
@@ -33,20 +33,20 @@ one_part (b ∷ bs) h = elim (cases_Bool (is_slash b)) [
   | inr other ↦ let rest : None ≡ rest_after 47 bs = rw other at h in rw (other, one_part bs rest) refl
 ]
 
-last_onto : (b : ℕ) (l : List (List ℕ)) → 1 < length l → (1 < length (onto_first b l)) × (last_of (onto_first b l) ≡ last_of l)
+last_onto : (b : ℕ) (l : List (List ℕ)) → 1 < length l → (1 < length (onto_first b l)) × (last_part (onto_first b l) ≡ last_part l)
 last_onto b [] h = absurd (omega arith)
 last_onto b (p ∷ []) h = absurd (omega arith)
 last_onto b (p ∷ q ∷ l) h = (h, refl)
 
 -- there are more parts, and the last is that of what stands after the first slash
-pub more_parts : (bs rest : List ℕ) → Some rest ≡ rest_after 47 bs → (1 < length (parts_of bs)) × (last_of (parts_of bs) ≡ last_of (parts_of rest))
+pub more_parts : (bs rest : List ℕ) → Some rest ≡ rest_after 47 bs → (1 < length (parts_of bs)) × (last_part (parts_of bs) ≡ last_part (parts_of rest))
 more_parts [] rest h = cc
 more_parts (b ∷ bs) rest h = elim (cases_Bool (is_slash b)) [
   | inl is ↦
       let same : Some rest ≡ Some bs = rw is at h in
       let some : 0 < length (parts_of bs) = some_part is_slash bs in
       let equal : bs ≡ rest = cc in
-      rw is (omega (arith, some), last_cons [] (parts_of bs) some ∙ ap (λ (zs : List ℕ). last_of (parts_of zs)) equal)
+      rw is (omega (arith, some), last_cons [] (parts_of bs) some ∙ ap (λ (zs : List ℕ). last_part (parts_of zs)) equal)
   | inr other ↦
       let later : Some rest ≡ rest_after 47 bs = rw other at h in
       let more = more_parts bs rest later in
@@ -90,13 +90,13 @@ coloned home b bs c is =
     let turned : (58 == b) ≡ false = ne_eqb _ _ (λ e. c (sym e)) in
     simp (colon, turned, is) (unnamed (starts_with nat_eq (b ∷ bs) (codes "//")) _ (b ∷ bs))
 
-bare : (home : Package) (bs : List ℕ) (x : ℕ) (xs : List ℕ) → list_any is_colon bs ≡ false → last_of (parts_of (47 ∷ 47 ∷ bs)) ≡ x ∷ xs → completed home (47 ∷ 47 ∷ bs) ≡ 47 ∷ 47 ∷ (bs ++ 58 ∷ x ∷ xs)
+bare : (home : Package) (bs : List ℕ) (x : ℕ) (xs : List ℕ) → list_any is_colon bs ≡ false → last_part (parts_of (47 ∷ 47 ∷ bs)) ≡ x ∷ xs → completed home (47 ∷ 47 ∷ bs) ≡ 47 ∷ 47 ∷ (bs ++ 58 ∷ x ∷ xs)
 bare home bs x xs none last = simp (none, last) refl
 
 -- a path, and its last part
-pub path : (home : Package) (rest bs name : List ℕ) (next : Option (ℕ × Bytes)) → list_any is_colon rest ≡ false → rest ≡ 47 ∷ bs → name ≡ last_of (parts_of (47 ∷ rest)) → MatchOption next (name ≡ []) (λ p. name ≡ p.0 ∷ left p.1) → is_some next ≡ true → completed home (47 ∷ rest) ≡ 47 ∷ (rest ++ 58 ∷ name)
+pub path : (home : Package) (rest bs name : List ℕ) (next : Option (ℕ × Bytes)) → list_any is_colon rest ≡ false → rest ≡ 47 ∷ bs → name ≡ last_part (parts_of (47 ∷ rest)) → MatchOption next (name ≡ []) (λ p. name ≡ p.0 ∷ left p.1) → is_some next ≡ true → completed home (47 ∷ rest) ≡ 47 ∷ (rest ++ 58 ∷ name)
 path home rest bs name None none two last some has = cc
 path home rest bs name (Some p) none two last some has =
     let no_colon : list_any is_colon bs ≡ false = rw two at none in
-    let part : last_of (parts_of (47 ∷ 47 ∷ bs)) ≡ p.0 ∷ left p.1 = ap (λ (zs : List ℕ). last_of (parts_of (47 ∷ zs))) (sym two) ∙ sym last ∙ some in
+    let part : last_part (parts_of (47 ∷ 47 ∷ bs)) ≡ p.0 ∷ left p.1 = ap (λ (zs : List ℕ). last_part (parts_of (47 ∷ zs))) (sym two) ∙ sym last ∙ some in
     rw (two, some) (bare home bs p.0 (left p.1) no_colon part)

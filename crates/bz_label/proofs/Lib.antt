@@ -2,6 +2,7 @@ pub mod Cuts
 mod Decoding
 mod Examples
 pub mod LabelSets
+pub mod LastBytes
 mod LastParts
 pub mod Literals
 pub mod ValueForms

@@ -1,16 +1,15 @@
 -- A literal read unit by unit.
-use Rattle.std.proofs.Common.{◌≡◌, ℕ, suc, ◌+◌, ◌-◌, ◌<◌, ◌==◌, ◌&&◌, ◌||◌, not, List, [], ◌∷◌, ◌++◌, length, take, drop, get_or, Bool, true, false, Option, Some, None, nat_eq, refl, sym, ap, ap₂, ◌∙◌, arith, inl, inr, append_assoc, eqb-true, option_and_then}
+use Rattle.std.proofs.Common.{◌≡◌, ℕ, ◌-◌, ◌<◌, ◌==◌, ◌&&◌, ◌||◌, not, List, [], ◌∷◌, ◌++◌, length, take, drop, get_or, Bool, true, false, Option, Some, None, nat_eq, refl, sym, ap, ap₂, ◌∙◌, arith, inl, inr, append_assoc, eqb-true, option_and_then}
 use Rattle.std.specs.Prelude.{if◌then◌else◌, option_map, bytes_eq, codes}
-use Rattle.std.specs.List.{starts_with, prefix_len, fold, list_all, concat}
+use Rattle.std.specs.List.{starts_with, fold, list_all, concat}
 use Rattle.std.proofs.lemmas.Bool.{cases_Bool, and_parts, or_parts, eq-eqb, ne_eqb, false_from_ne_true}
 use Rattle.std.proofs.lemmas.List.{take_all, take_at, get_or_at, length-append}
 use Rattle.std.proofs.Math.Bool.{and_assoc}
 use Rattle.std.proofs.lemmas.Slice.Eq.{bytes_eq-Decides}
 use Rattle.bz_token.specs.Groups.{grouped_from}
-use Rattle.bz_token.specs.Strings.{is_quote}
 use Rattle.bz_token.proofs.CutStrings.{grouped_joins, grouped_apart}
-use Rattle.bz_label.specs.Values.{is_plain, IsQuoted, IsPlain}
-use Rattle.bz_label.specs.private.ValueSteps.{takes, units, content, is_newline, unit_value, values, plain_too, first_len, is_value, inner_value, value_in, taken, opened_value}
+use Rattle.bz_label.specs.Literals.{is_plain, IsQuoted, IsPlain}
+use Rattle.bz_label.specs.private.ValueSteps.{takes, units, content, is_newline, unit_value, values, plain_too, first_len, is_value, inner_value, value_in, taken}
 
 -- nothing more joins a group
 apart : (g xs : List ℕ) → ((x : ℕ) → takes g x ≡ false) → grouped_from takes g xs ≡ g ∷ units xs

@@ -1,8 +1,8 @@
 -- The value of a literal, read unit by unit, is that of the definition.
-use Rattle.std.proofs.Common.{◌≡◌, ◌⊎◌, ℕ, zero, suc, ◌+◌, ◌-◌, ◌≤◌, ◌<◌, ◌==◌, ◌&&◌, ◌||◌, not, List, [], ◌∷◌, length, take, drop, replicate, Bool, true, false, Option, Some, None, nat_eq, refl, sym, ap, ap₂, subst, ◌∙◌, ◌++◌, arith, inl, inr, eqb-true, option_and_then}
+use Rattle.std.proofs.Common.{◌≡◌, ℕ, zero, suc, ◌-◌, ◌≤◌, ◌<◌, ◌==◌, ◌&&◌, ◌||◌, not, List, [], ◌∷◌, length, take, drop, replicate, Bool, true, false, Option, Some, None, nat_eq, refl, sym, ap, ap₂, subst, ◌∙◌, ◌++◌, arith, inl, inr, eqb-true, option_and_then}
 use Rattle.std.specs.Prelude.{if◌then◌else◌, option_map, bytes_eq, codes}
-use Rattle.std.specs.List.{starts_with, list_any}
-use Rattle.std.proofs.lemmas.Bool.{cases_Bool, and_parts, or_parts, or_cases, eqb-false, ne_eqb, false≢true}
+use Rattle.std.specs.List.{starts_with}
+use Rattle.std.proofs.lemmas.Bool.{cases_Bool, and_parts, eqb-false, ne_eqb, false≢true}
 use Rattle.std.proofs.lemmas.Bool.Decides.{nat_tests}
 use Rattle.bz_token.specs.declared.scan_string.Opening.{Opening}
 use Rattle.bz_token.specs.declared.scan_string.Quotes.{Quotes}

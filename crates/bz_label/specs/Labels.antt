@@ -3,8 +3,9 @@
 -- Begin with `Package` and `Target`.
 -- In no stop: `is_kind` of `Names` (identifiers joined by dots, none a keyword), for how a label is read,
 -- which `run` does not reach.
-use Rattle.std.specs.Prelude.{ℕ, nat_lt, nat_eq, ◌==◌, ◌<◌, ◌^◌, List, [], ◌∷◌, Bool, true, false, ◌&&◌, ◌||◌, not, if◌then◌else◌, IsTrue, Option, None, Some, Result, Ok, Err, codes, length, drop, bytes_eq, unwrap_or}
-use Rattle.std.specs.List.{position_or_len, list_all, list_any, before_first, after_first, starts_with, slice_split, last_or}
+use Rattle.std.specs.Prelude.{ℕ, nat_lt, nat_eq, ◌==◌, ◌<◌, ◌^◌, List, [], ◌∷◌, Bool, true, false, ◌&&◌, ◌||◌, not, if◌then◌else◌, IsTrue, Option, None, Some, Result, Ok, Err, codes, length, drop, bytes_eq, unwrap_or, ◌++◌, ⊤}
+use Rattle.std.specs.List.{position_or_len, list_all, before_first, after_first, starts_with, slice_split}
+use Rattle.bz_token.specs.Common.{is_one_of, last_of}
 use Rattle.std.specs.Char.{is_ascii_digit}
 use Rattle.std.specs.Str.Parse.{digits_value}
 use Rattle.bz_label.specs.declared.labels.LabelFault.{LabelFault}
@@ -14,6 +15,11 @@ use Rattle.bz_label.specs.Names.{is_kind}
 -- a package: the path of its folder, or nothing for standard input and output
 abbrev pub Package : Type 0
 Package = Option (List ℕ)
+
+-- a text after the path of a package, as `:name` after `//path`; standard input has no path
+abbrev pub in_package : Package → List ℕ → List ℕ
+in_package None text = text
+in_package (Some path) text = codes "//" ++ (path ++ text)
 
 -- what is meant in a package
 pub data Target : Type 0 where
@@ -45,7 +51,7 @@ abbrev pub parts_of : List ℕ → List (List ℕ)
 parts_of path = slice_split is_slash path
 
 abbrev pub is_part : List ℕ → Bool
-is_part part = not (list_any (bytes_eq part) (codes "" ∷ codes "." ∷ codes ".." ∷ codes "..." ∷ []))
+is_part part = not (is_one_of (codes "" ∷ codes "." ∷ codes ".." ∷ codes "..." ∷ []) part)
 
 -- The path of a package: empty for the root, or parts joined by `/`. One that begins with `@` would name
 -- another repository.
@@ -89,14 +95,14 @@ pair_of (Ok package_) (Err fault) = Err fault
 pair_of (Ok package_) (Ok target) = Ok (package_, target)
 
 -- the last part of a path; empty, where there is none
-abbrev pub last_of : List (List ℕ) → List ℕ
-last_of parts = unwrap_or (last_or None parts) []
+abbrev pub last_part : List (List ℕ) → List ℕ
+last_part parts = unwrap_or (last_of parts) []
 
 -- without a colon the last part of the path is the name; the root and standard input have none
 abbrev pub named_of : Result Package LabelFault → Result (Package × Target) LabelFault
 named_of (Err fault) = Err fault
 named_of (Ok None) = Err BadTarget
-named_of (Ok (Some path)) = if bytes_eq path [] then Err BadTarget else Ok (Some path, Name (last_of (parts_of path)))
+named_of (Ok (Some path)) = if bytes_eq path [] then Err BadTarget else Ok (Some path, Name (last_part (parts_of path)))
 
 -- a label is cut at its first colon
 abbrev pub label_of : List ℕ → Result (Package × Target) LabelFault
@@ -106,13 +112,13 @@ label_of text =
 
 -- what a package and a target that were read keep
 abbrev pub IsPackage : Package → Type 0
-IsPackage None = Unit {0}
+IsPackage None = ⊤
 IsPackage (Some path) = IsTrue (is_path path)
 
 abbrev pub IsRead : Target → Type 0
 IsRead (Name name) = IsTrue (is_target name)
-IsRead Pkg = Unit {0}
-IsRead All = Unit {0}
+IsRead Pkg = ⊤
+IsRead All = ⊤
 IsRead (Kind kind) = IsTrue (is_kind kind)
 IsRead (Line line) = line < 2 ^ 64
 

@@ -2,6 +2,7 @@ pub mod Arguments
 pub mod LabelSetViews
 pub mod LabelViews
 pub mod Labels
+pub mod Literals
 pub mod Names
 pub mod Same
 pub mod Values

@@ -1,19 +1,18 @@
 -- The values of string literals (Starlark specification, "String literals"), and how a value is written as
 -- one. Which literals have no value, and the written form, are this project's own rule. A unit is a byte, or
--- an escape: a backslash and what it takes along (stop 8, `units`). `Opening`, of `src/scan_string.rt` of
--- bz_token, has the number of prefix letters and the quotes.
+-- an escape: a backslash and what it takes along (`units`). `Strings` of bz_token says these of a text: what
+-- opens a literal (`opening`: the number of prefix letters, and the quotes, `Opening` in
+-- `src/scan_string.rt`), how many quotes that are (`quote_count`: three, or one), the units after the opening
+-- quotes (`inside`), and whether all of it is one literal (`is_string`).
 -- Begin with `value_of` and `quoted`.
--- Of later stops: 8 `inside`, `is_byte`, `is_string`, `opening`, `quote_count`.
-use Rattle.std.specs.Prelude.{ℕ, ◌-◌, ◌≡◌, ◌⊎◌, not, ◌==◌, List, [], ◌∷◌, ◌++◌, Bool, true, false, ◌&&◌, if◌then◌else◌, Option, Some, None, option_map, codes, length, take, bytes_eq, option_and_then}
-use Rattle.std.specs.List.{list_all, flat_map, find}
-use Rattle.bz_token.specs.declared.token.Kind.{Kind}
-use Rattle.bz_token.specs.declared.token.Kind.TheVariants.{String}
-use Rattle.bz_token.specs.declared.token.Token.{Token}
+use Rattle.std.specs.Prelude.{ℕ, ◌-◌, ◌==◌, List, [], ◌∷◌, ◌++◌, Bool, true, false, ◌&&◌, if◌then◌else◌, Option, Some, None, option_map, codes, length, take, bytes_eq, option_and_then}
+use Rattle.std.specs.List.{flat_map, find}
 use Rattle.bz_token.specs.declared.scan_string.Opening.{Opening}
 use Rattle.bz_token.specs.Common.{first_of, map_or}
-use Rattle.bz_token.specs.Strings.{is_byte, is_quote, opening, quote_count, inside, is_string}
+use Rattle.bz_token.specs.Strings.{is_byte, opening, quote_count, inside, is_string}
 
--- the units between the quotes of a literal
+-- the units between the quotes of one whole literal: those after the opening quotes, but for as many at the
+-- end as there are opening quotes
 abbrev pub content : Opening → List ℕ → List (List ℕ)
 content o text = take (length (inside o text) - quote_count o.quotes.long) (inside o text)
 
@@ -47,33 +46,11 @@ value_after prefix us =
     if bytes_eq prefix [] then values false us
     else (if bytes_eq prefix (codes "r") then values true us else None)
 
--- The value of a text that is one whole literal.
+-- the value of a text that is one whole literal; any other text has none
 abbrev pub value_of : List ℕ → Option (List ℕ)
 value_of text =
     option_and_then (λ o. if is_string text then value_after (take o.prefix text) (content o text) else None)
     (opening text)
-
--- a byte that stands for itself in a string of one quote
-abbrev pub is_plain : ℕ → ℕ → Bool
-is_plain quote b = not (quote == b) && (not (b == 92) && (not (b == 13) && not (b == 10)))
-
--- a value between one quote and another, each byte of which stands for itself
-abbrev pub IsQuoted : List ℕ → List ℕ → Type 0
-IsQuoted literal value =
-    (quote : ℕ) × (is_quote quote ≡ true) × (list_all (is_plain quote) value ≡ true)
-    × (literal ≡ quote ∷ (value ++ quote ∷ []))
-
--- such a literal, or one after the prefix `r`
-abbrev pub IsPlain : List ℕ → List ℕ → Type 0
-IsPlain text value = IsQuoted text value ⊎ ((literal : List ℕ) × (text ≡ 114 ∷ literal) × IsQuoted literal value)
-
--- the value of a token: only a string has one
-abbrev pub value_at : Kind → List ℕ → Option (List ℕ)
-value_at String text = value_of text
-value_at _ text = None
-
-abbrev pub token_value : Token → Option (List ℕ)
-token_value t = value_at t.kind t.text.now
 
 -- how a byte of a value is written in a new literal
 abbrev pub written : ℕ → List ℕ

@@ -4,7 +4,8 @@ ghost use Rattle.std.specs.Prelude.{◌≡◌, IsTrue, MatchOption, IfSome, [], 
 ghost use Rattle.std.specs.List.{flat_map, list_all};
 ghost use Rattle.std.specs.Ordering.{nat_cmp};
 ghost use Rattle.std.specs.Cmp.Lexicographic.{slice_cmp};
-ghost use Rattle.bz_label.specs.Labels.{last_of, parts_of};
+ghost use Rattle.bz_label.specs.Labels.{last_part, parts_of};
+ghost use Rattle.bz_label.specs.Labels as labels;
 ghost use Rattle.bz_label.specs.Same as same;
 ghost use Rattle.bz_label.specs.private.ByteSteps.{left, is_good};
 ghost use Rattle.bz_label.specs.private.LabelSteps.{rest_after, chain_bytes, is_good_chain};
@@ -44,7 +45,7 @@ pub(crate) fn completed<'a>(home: &'a Package, text: Bytes<'a>) -> [Bytes<'a>; 4
 fn in_package<'a>(home: &'a Package, colon: Bytes<'a>, name: Bytes<'a>) -> [Bytes<'a>; 4]
     requires colon { IsTrue (is_good colon) }
     requires name { IsTrue (is_good name) }
-    ensures bytes { flat_map left result ≡ same.in_package home.now (left colon.entry ++ left name.entry) }
+    ensures bytes { flat_map left result ≡ labels.in_package home.now (left colon.entry ++ left name.entry) }
     ensures good { IsTrue (list_all is_good result) }
 {
     match home.path() {
@@ -61,7 +62,7 @@ fn in_package<'a>(home: &'a Package, colon: Bytes<'a>, name: Bytes<'a>) -> [Byte
 // What stands after the last slash.
 fn last_part<'a>(mut path: Bytes<'a>) -> Bytes<'a>
     requires { IsTrue (is_good path) }
-    ensures last { left result ≡ last_of (parts_of (left path.entry)) }
+    ensures last { left result ≡ labels.last_part (labels.parts_of (left path.entry)) }
     ensures good { IsTrue (is_good result) }
 {
     while let Some(rest) = after(path, b'/') {

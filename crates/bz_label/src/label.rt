@@ -1,10 +1,11 @@
 //! A text as a label of a package, which is ordered by a key, and then by its bytes in full; and which texts are the
 //! same.
 
-ghost use Rattle.std.specs.Prelude.{◌≡◌, ◌↔◌, Some, refl, IsTrue, bytes_eq};
+ghost use Rattle.std.specs.Prelude.{◌≡◌, Some, refl, false, IsTrue, bytes_eq};
 ghost use Rattle.std.specs.List.{fold, flat_map, list_all};
 ghost use Rattle.std.specs.Cmp.{partial_equiv_from_equiv, eq_by_cmp_equiv, partial_order_from_total};
 ghost use Rattle.std.specs.Ordering.{eq_by_cmp};
+ghost use Rattle.bz_label.specs.Labels as labels;
 ghost use Rattle.bz_label.specs.private.ByteSteps.{left, is_good};
 ghost use Rattle.bz_label.specs.private.LabelSteps.{stirred, key_of, label_cmp, label_cmp_total};
 ghost use Rattle.bz_label.specs.Same as spec;
@@ -118,7 +119,7 @@ impl<'a> Ord for Label<'a> {
 /// Whether two texts are the same label in a package, its home: `x` and `:x` there are `//path:x`, and `//a/b` is
 /// `//a/b:b`.
 pub fn same(a: &str, b: &str, home: &Package) -> bool
-    ensures { IsTrue result ↔ spec.IsSame home.now a.now b.now }
+    ensures { result ≡ spec.same home.now a.now b.now }
 {
     same_label(home, Bytes::Plain(a.as_bytes()), Bytes::Plain(b.as_bytes()))
 }
@@ -127,17 +128,30 @@ pub fn same(a: &str, b: &str, home: &Package) -> bool
 pub fn same_label(home: &Package, a: Bytes<'_>, b: Bytes<'_>) -> bool
     requires a { IsTrue (is_good a) }
     requires b { IsTrue (is_good b) }
-    ensures { result ≡ bytes_eq (spec.completed home.now (left a.entry)) (spec.completed home.now (left b.entry)) }
-{
-    are_same_bytes(a, b) || order(&completed(home, a), &completed(home, b)).is_eq()
-}
-
-/// Whether the two are the same bytes without escapes: then nothing has to be completed.
-fn are_same_bytes(a: Bytes<'_>, b: Bytes<'_>) -> bool
-    ensures { IsTrue result → left a.entry ≡ left b.entry }
+    ensures { result ≡ spec.same home.now (left a.entry) (left b.entry) }
 {
     match (a, b) {
-        (Bytes::Plain(a), Bytes::Plain(b)) => a == b,
-        _ => false,
+        (Bytes::Plain(a), Bytes::Plain(b)) if a == b => true,
+        (Bytes::Plain(a), Bytes::Plain(b)) if are_apart(a, b) => false,
+        _ => order(&completed(home, a), &completed(home, b)).is_eq(),
     }
+}
+
+// The two end in the same bytes, if any, without slashes, and the bytes before these differ: a label in full ends as its
+// text does after the last slash. Most texts differ in the last byte.
+fn are_apart(mut a: &[u8], mut b: &[u8]) -> bool
+    ensures { IsTrue result → (home : labels.Package)
+        → bytes_eq (spec.completed home a.entry.now) (spec.completed home b.entry.now) ≡ false }
+{
+    while let ([front @ .., byte], [rest @ .., other]) = (a, b) {
+        if *byte == b'/' || *other == b'/' {
+            return false;
+        }
+        if *byte != *other {
+            return true;
+        }
+        a = front;
+        b = rest;
+    }
+    false
 }

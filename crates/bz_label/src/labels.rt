@@ -60,7 +60,7 @@ fn read_named(alloc: Global, text: &str) -> Result<(Package, Target), LabelFault
 
 // What stands after the last slash.
 fn last_part(mut path: &str) -> &str
-    ensures { result.now ≡ spec.last_of (spec.parts_of path.now) }
+    ensures { result.now ≡ spec.last_part (spec.parts_of path.now) }
 {
     while let Some((_, rest)) = cut(path, '/') {
         path = rest;

@@ -2,7 +2,8 @@
 
 ghost use Rattle.std.specs.Prelude.{◌≡◌, ℕ, List, Some};
 ghost use Rattle.bz_label.specs.Labels.{Package};
-ghost use Rattle.bz_label.specs.Same.{IsSame, IsEquivalence};
+ghost use Rattle.bz_label.specs.Same.{same};
+ghost use Rattle.std.specs.Cmp.{IsEquivalence};
 ghost use Rattle.bz_label.specs.Values.{value_of, quoted};
 
 /// The literal that is written for a value has this value.
@@ -12,5 +13,5 @@ pub fn quoted_reads_back()
 
 /// In each package, to be the same label is an equivalence.
 pub fn sameness_is_an_equivalence()
-    ensures { (home : Package) → IsEquivalence (IsSame home) }
+    ensures { (home : Package) → IsEquivalence (same home) }
 {}

@@ -3,7 +3,7 @@
 ghost use Rattle.std.specs.Prelude.{◌≡◌, ◌<◌, ◌++◌, ◌∷◌, ℕ, List, MatchOption, IfSome, IfNone, Some, length, take, option_map, true};
 ghost use Rattle.std.specs.List.{fold};
 ghost use Rattle.bz_label.specs.Values as spec;
-ghost use Rattle.bz_label.specs.Values.{is_plain, IsQuoted, IsPlain};
+ghost use Rattle.bz_label.specs.Literals.{is_plain, IsQuoted, IsPlain};
 ghost use Rattle.bz_label.specs.private.ValueSteps.{opened_value, plain_too, taken};
 ghost use Rattle.bz_label.specs.private.ByteSteps.{inner_of, opened, ended, is_closed, StandsIn, taken_of, IsPlainLeft, IsOpened};
 

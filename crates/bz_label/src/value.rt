@@ -3,6 +3,7 @@
 ghost use Rattle.std.specs.Prelude.{◌≡◌, ◌==◌, ◌+◌, ◌<◌, ◌↔◌, ℕ, List, OnOk, IfOk, IfSome, IfNone, IsTrue, Some, string_bytes, ◌++◌, encode_utf8};
 ghost use Rattle.std.specs.List.{flat_map};
 ghost use Rattle.bz_label.specs.Values as spec;
+ghost use Rattle.bz_label.specs.Literals.{IsPlain, token_value};
 ghost use Rattle.bz_label.specs.private.ValueSteps.{is_value};
 ghost use Rattle.bz_label.specs.private.ByteSteps.{inner_of};
 
@@ -14,7 +15,7 @@ use std::alloc::Global;
 /// Whether the token is a string literal with this value. A bytes literal, a raw string with a backslash and a string
 /// with an escape other than `\a \b \f \n \r \t \v \\ \' \"` have no value.
 pub fn value_is(token: &Token<'_>, value: &str) -> bool
-    ensures { IsTrue result ↔ (spec.token_value token.now ≡ Some value.now) }
+    ensures { IsTrue result ↔ (token_value token.now ≡ Some value.now) }
 {
     matches!(token.kind, Kind::String) && has_value(token.text.as_bytes(), value.as_bytes())
 }
@@ -48,7 +49,7 @@ fn push_written(text: &mut String, c: char) -> Result<(), NoMemory>
 /// text. None: the text is no such literal.
 pub fn plain_text(text: &str) -> Option<&str>
     ensures value { IfSome result (λ value. spec.value_of text.now ≡ Some value.now) }
-    ensures none { IfNone result ((value : List ℕ) → spec.IsPlain text.now value → ⊥) }
+    ensures none { IfNone result ((value : List ℕ) → IsPlain text.now value → ⊥) }
 {
     let literal = open(text.as_bytes())?;
     let value = plain_value(literal)?;

@@ -4,8 +4,8 @@ use Rattle.std.specs.List.{list_all}
 use Rattle.bz_attribute.proofs.RuleNodes.{rule_nodes}
 use Rattle.bz_attribute.specs.Effects.{argument, edit_first, list_item, string, with_args}
 use Rattle.bz_attribute.specs.private.RuleNodes.{nodes_after}
-use Rattle.bz_attribute.specs.Lists.{edit_parts, may_be_in_sum, is_plus, with_value}
-use Rattle.bz_attribute.specs.ListWalk.{edit_first_part, edit_from, edit_list, edit_one_from, is_part}
+use Rattle.bz_attribute.specs.Lists.{edit_parts, may_be_in_sum, with_value}
+use Rattle.bz_attribute.specs.ListWalk.{is_plus, edit_first_part, edit_from, edit_list, edit_one_from, is_part}
 use Rattle.bz_attribute.proofs.ListPieces.{edit_first_part_is, edit_parts_are}
 use Rattle.bz_attribute.specs.Rules.{is_named, rule_of, value}
 use Rattle.bz_rule.proofs.Arguments.{value_back}

@@ -9,7 +9,7 @@ use Rattle.bz_label.specs.Labels.{Package}
 use Rattle.bz_label.specs.declared.arguments.Attributes.{Attributes}
 use Rattle.bz_label.specs.declared.arguments.Attributes.TheVariants.{Every, Named}
 use Rattle.bz_label.specs.declared.arguments.Setting.TheVariants.{ToKind, ToValues}
-use Rattle.bz_engine.specs.Language.{fails}
+use Rattle.bz_engine.specs.Failing.{fails}
 use Rattle.bz_rule.proofs.Lawfulness.{lawful}
 use Rattle.bz_rule.specs.declared.command.Action.TheVariants.{Add, Remove, Set, SetIfAbsent, Replace, Print}
 use Rattle.bz_rule.specs.Commands.{Command, after, done_of, is_command}

@@ -6,7 +6,8 @@ use Rattle.bz_tree.specs.Tree.{Item, group, Segment, Statement, segs_of}
 use Rattle.bz_attribute.specs.Rules.{Rule, rule_of}
 use Rattle.bz_attribute.specs.private.RuleSteps.{dotted}
 use Rattle.bz_attribute.specs.declared.done.Done.{Done}
-use Rattle.bz_attribute.specs.Effects.{nodes_of, slot_done, with_args, done}
+use Rattle.bz_attribute.specs.Effects.{nodes_of, with_args}
+use Rattle.bz_attribute.specs.Reports.{slot_done, done}
 use Rattle.bz_attribute.specs.private.RuleNodes.{nodes_after}
 use Rattle.bz_attribute.proofs.Views.{segments_of}
 use Rattle.bz_attribute.proofs.Calls.{rule_at_end}

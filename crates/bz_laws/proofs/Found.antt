@@ -6,13 +6,15 @@ use Rattle.std.proofs.lemmas.Bool.{or_left, or_right, and_parts}
 use Rattle.std.proofs.lemmas.List.Folds.{list_any-append}
 use Rattle.bz_tree.specs.Tree.{Segment}
 use Rattle.bz_label.specs.Labels.{Package}
-use Rattle.bz_label.specs.Same.{completed}
+use Rattle.bz_label.specs.Same.{completed, same}
 use Rattle.bz_label.specs.declared.arguments.Chosen.TheVariants.{Values}
 use Rattle.bz_attribute.specs.Rules.{is_named, is_text, first_named, value}
-use Rattle.bz_attribute.specs.Lists.{is_attribute, parts, same, with_value}
+use Rattle.bz_attribute.specs.Lists.{is_attribute, parts, with_value}
 use Rattle.bz_attribute.specs.ListWalk.{edit_first_part}
-use Rattle.bz_attribute.specs.Effects.{chooses, has, is_chosen, no_list_note, string}
-use Rattle.bz_rule.specs.Add.{add, add_by_value, fresh, is_fresh, new_elements, with_added}
+use Rattle.bz_attribute.specs.Effects.{has, is_chosen, no_list_note, string}
+use Rattle.bz_attribute.specs.Reports.{chooses}
+use Rattle.bz_rule.specs.Add.{add}
+use Rattle.bz_rule.specs.AddByValue.{add_by_value, fresh, is_fresh, new_elements, with_added}
 use Rattle.bz_rule.proofs.Adds.{add_is}
 use Rattle.bz_attribute.specs.declared.done.Note.TheVariants.{NotAList}
 use Rattle.bz_attribute.proofs.Views.{segments_of}

@@ -9,7 +9,8 @@ use Rattle.bz_label.specs.declared.arguments.Chosen.{Chosen}
 use Rattle.bz_label.specs.declared.arguments.Chosen.TheVariants.{Values}
 use Rattle.bz_attribute.specs.Rules.{is_named, is_text, first_named, value}
 use Rattle.bz_attribute.specs.Lists.{edit_parts, is_attribute, parts, with_value}
-use Rattle.bz_attribute.specs.Effects.{edit_first, filtered, has, is_chosen, loses_all, unchosen, chooses}
+use Rattle.bz_attribute.specs.Effects.{edit_first, filtered, has, is_chosen, loses_all, unchosen}
+use Rattle.bz_attribute.specs.Reports.{chooses}
 use Rattle.bz_rule.specs.Remove.{remove, goes_with_all}
 use Rattle.bz_rule.proofs.Kept.{none_left_in}
 use Rattle.bz_rule.proofs.Arguments.{attribute_named, name_put}

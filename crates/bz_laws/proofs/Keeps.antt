@@ -4,7 +4,8 @@ use Rattle.bz_tree.specs.Tree.{Segment, Statement}
 use Rattle.bz_label.specs.Labels.{Package}
 use Rattle.bz_rule.specs.Commands.{Command, is_command, command_passes, after, args_after, args_done, done_of, keeps_comments}
 use Rattle.bz_attribute.specs.Rules.{rule_of}
-use Rattle.bz_attribute.specs.Effects.{slot_done, with_args}
+use Rattle.bz_attribute.specs.Effects.{with_args}
+use Rattle.bz_attribute.specs.Reports.{slot_done}
 use Rattle.bz_attribute.specs.private.RuleNodes.{nodes_after}
 use Rattle.bz_laws.specs.Aside.{IsAside}
 use Rattle.bz_laws.specs.Unmentioned.{unmentioned}

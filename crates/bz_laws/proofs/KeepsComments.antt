@@ -12,7 +12,8 @@ use Rattle.bz_layout_laws.specs.WellFormed.{IsWellFormed}
 use Rattle.bz_label.specs.Arguments.{commented_passes, is_commented}
 use Rattle.bz_label.specs.Labels.{Package}
 use Rattle.bz_rule.specs.Comment.{comment_line}
-use Rattle.bz_attribute.specs.Effects.{done, slot_done, with_args}
+use Rattle.bz_attribute.specs.Effects.{with_args}
+use Rattle.bz_attribute.specs.Reports.{done, slot_done}
 use Rattle.bz_attribute.specs.Rules.{rule_of}
 use Rattle.bz_attribute.proofs.RuleNodes.{rule_nodes}
 use Rattle.bz_rule.specs.Commands.{Command, after, args_after, args_done, command_passes, done_of, is_command, keeps_comments, mentions}

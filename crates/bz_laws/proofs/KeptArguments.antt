@@ -17,10 +17,12 @@ use Rattle.bz_attribute.specs.Rules.{is_named, is_text, name_of, value, first_na
 use Rattle.bz_attribute.specs.Lists.{edit_parts, is_attribute, with_value, parts}
 use Rattle.bz_attribute.specs.ListWalk.{edit_first_part}
 use Rattle.bz_attribute.specs.Effects.{argument, edit_first, filtered, has, loses_all, unchosen}
-use Rattle.bz_rule.specs.Add.{add, new_elements, with_added}
+use Rattle.bz_rule.specs.Add.{add}
+use Rattle.bz_rule.specs.AddByValue.{new_elements, with_added}
 use Rattle.bz_rule.proofs.Adds.{add_is}
 use Rattle.bz_rule.proofs.Moves.{move_is}
-use Rattle.bz_rule.specs.Move.{move, move_note, moves, put_in}
+use Rattle.bz_rule.specs.Move.{move, move_note, put_in}
+use Rattle.bz_rule.specs.Reports.{moves}
 use Rattle.bz_rule.specs.Remove.{goes_with_all, remove}
 use Rattle.bz_rule.specs.Set.{New, is_value, new_of, new_value, set, set_if_absent, set_in}
 use Rattle.bz_rule.specs.declared.command.Action.TheVariants.{Add, Remove, Set, SetIfAbsent, Delete, Move, Comment, Print}

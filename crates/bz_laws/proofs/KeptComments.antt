@@ -6,7 +6,8 @@ use Rattle.bz_label.specs.Labels.{Package}
 use Rattle.bz_label.specs.declared.arguments.Attributes.{Attributes}
 use Rattle.bz_label.specs.declared.arguments.Attributes.TheVariants.{Every, Named}
 use Rattle.bz_label.specs.declared.arguments.Chosen.{Chosen}
-use Rattle.bz_rule.specs.Add.{add, new_elements, with_added}
+use Rattle.bz_rule.specs.Add.{add}
+use Rattle.bz_rule.specs.AddByValue.{new_elements, with_added}
 use Rattle.bz_rule.proofs.Adds.{add_is}
 use Rattle.bz_attribute.specs.Effects.{argument, edit_first, filtered, has, list_item, loses_all, unchosen}
 use Rattle.bz_attribute.specs.Lists.{edit_parts, is_attribute, parts, with_value}

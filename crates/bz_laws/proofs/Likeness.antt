@@ -6,10 +6,9 @@ use Rattle.std.proofs.lemmas.Bool.{and_from, and_parts}
 use Rattle.std.proofs.lemmas.Slice.Eq.{bytes_eq-Decides}
 use Rattle.bz_tree.specs.Tree.{Segment}
 use Rattle.bz_label.specs.Labels.{Package}
-use Rattle.bz_label.specs.Same.{completed}
+use Rattle.bz_label.specs.Same.{completed, same}
 use Rattle.bz_label.specs.declared.arguments.Chosen.TheVariants.{Values}
 use Rattle.bz_attribute.specs.Rules.{string_value}
-use Rattle.bz_attribute.specs.Lists.{same}
 use Rattle.bz_attribute.specs.Effects.{is_chosen, string}
 use Rattle.bz_label.proofs.ReadBack.{quoted_value}
 use Rattle.bz_rule.proofs.Arguments.{same_bytes}

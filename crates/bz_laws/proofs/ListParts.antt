@@ -3,10 +3,9 @@ use Rattle.std.proofs.Common.{Bool, List, [], ap, arith, false, if◌then◌else
 use Rattle.std.proofs.lemmas.Bool.{and_parts, false≢true}
 use Rattle.std.specs.List.{AllByRecursion, list_all, list_any}
 use Rattle.bz_attribute.specs.Effects.{edit_first, list_item}
-use Rattle.bz_attribute.specs.ListWalk.{is_list, edit_element, edit_element_from, edit_first_part, edit_from, edit_list, edit_one_from, ends, is_part, parts_from}
+use Rattle.bz_attribute.specs.ListWalk.{is_list, edit_element, edit_element_from, edit_first_part, edit_from, edit_list, edit_one_from, ends, is_part, parts_from, elements, is_plus}
 use Rattle.bz_attribute.proofs.ListPieces.{edit_element_is, edit_first_part_is, edit_parts_are, parts_are}
-use Rattle.bz_attribute.specs.Lists.{edit_parts, may_be_in_sum, is_plus, parts}
-use Rattle.bz_attribute.specs.Rules.{elements}
+use Rattle.bz_attribute.specs.Lists.{edit_parts, may_be_in_sum, parts}
 use Rattle.bz_layout_laws.specs.Inside.{HasShape}
 use Rattle.bz_layout_laws.specs.Legible.{item_depth, items_depth, segs_depth}
 use Rattle.bz_layout_laws.specs.Parsed.{HasKind, HaveKinds, SegsHaveKinds, have_for, is_comma}

@@ -7,7 +7,8 @@ use Rattle.std.proofs.lemmas.Bool.{cases_Bool, and_parts, or_left, or_parts, fal
 use Rattle.bz_token.specs.declared.token.Kind.TheVariants.{Identifier, Integer, String, Operator}
 use Rattle.bz_token.specs.declared.scan_string.Quotes.{Quotes}
 use Rattle.bz_token.specs.declared.scan_string.Escape.TheVariants.{Unescaped}
-use Rattle.bz_token.specs.Lexical.{ends_blank, is_comment, is_newline, is_number, is_text, keywords, operators}
+use Rattle.bz_token.specs.Lexical.{ends_blank, is_comment, is_number, is_text, keywords, operators}
+use Rattle.bz_token.specs.Common.{is_newline}
 use Rattle.bz_token.specs.private.Closing.{closes}
 use Rattle.bz_token.proofs.StringUnits.{closes_units}
 use Rattle.bz_token.proofs.Classes.{same_bytes}

@@ -9,9 +9,11 @@ use Rattle.bz_tree.specs.Tree.{Segment}
 use Rattle.bz_label.specs.Labels.{Package}
 use Rattle.bz_label.specs.declared.arguments.Chosen.TheVariants.{Values}
 use Rattle.bz_attribute.specs.Effects.{is_chosen, string}
-use Rattle.bz_attribute.specs.Lists.{equals, is_attribute, parts, same}
+use Rattle.bz_attribute.specs.Lists.{equals, is_attribute, parts}
+use Rattle.bz_label.specs.Same.{same}
 use Rattle.bz_attribute.specs.Rules.{first_named, string_value, value}
-use Rattle.bz_rule.specs.Add.{add, fresh, is_fresh, new_elements, with_added}
+use Rattle.bz_rule.specs.Add.{add}
+use Rattle.bz_rule.specs.AddByValue.{fresh, is_fresh, new_elements, with_added}
 use Rattle.bz_rule.specs.Move.{elements_of}
 use Rattle.bz_laws.specs.Doubles.{are_same, has_no_double}
 use Rattle.bz_attribute.proofs.LabelSets.{same_back}

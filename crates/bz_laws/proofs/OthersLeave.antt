@@ -10,9 +10,9 @@ use Rattle.bz_label.specs.declared.arguments.Attributes.TheVariants.{Every, Name
 use Rattle.bz_label.specs.declared.arguments.Chosen.TheVariants.{Values}
 use Rattle.bz_label.specs.declared.arguments.Setting.TheVariants.{ToKind, ToValues}
 use Rattle.bz_attribute.specs.Rules.{Rule, first_named, is_named, is_text, kind_text, name_of, rule_of}
-use Rattle.bz_attribute.specs.Effects.{done, has, no_list_note, slot_done, chooses}
-use Rattle.bz_rule.specs.Add.{adds}
-use Rattle.bz_rule.specs.Set.{sets, sets_kind_of}
+use Rattle.bz_attribute.specs.Effects.{has, no_list_note}
+use Rattle.bz_attribute.specs.Reports.{done, slot_done, chooses}
+use Rattle.bz_rule.specs.Reports.{adds, sets, sets_kind_of, replaces_in}
 use Rattle.bz_attribute.specs.declared.done.Done.{Done}
 use Rattle.bz_rule.specs.declared.command.Action.TheVariants.{Add, Remove, Set, SetIfAbsent, Delete, Replace, Comment, Print}
 use Rattle.bz_rule.specs.Commands.{Command, after, args_after, args_done, done_of}
@@ -23,7 +23,6 @@ use Rattle.bz_laws.proofs.Commands.{keeping}
 use Rattle.bz_laws.proofs.KeptArguments.{narrower}
 use Rattle.bz_laws.proofs.RuleArguments.{kind_kept, kind_there, there, there_after}
 use Rattle.bz_laws.proofs.SecondTime.{print_quiet, told, told_there}
-use Rattle.bz_rule.specs.Replace.{replaces_in}
 use Rattle.bz_token.specs.Common.{map_or}
 use Rattle.bz_attribute.proofs.Locals.{has_first}
 

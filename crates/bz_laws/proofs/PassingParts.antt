@@ -3,10 +3,9 @@ use Rattle.std.proofs.Common.{Bool, List, [], false, if◌then◌else◌, subst,
 use Rattle.std.proofs.lemmas.Bool.{and_parts}
 use Rattle.std.specs.List.{AllByRecursion, list_all, list_any}
 use Rattle.bz_attribute.specs.Effects.{edit_first}
-use Rattle.bz_attribute.specs.ListWalk.{edit_element, edit_element_from, edit_first_part, edit_from, edit_list, edit_one_from, is_part, parts_from}
+use Rattle.bz_attribute.specs.ListWalk.{edit_element, edit_element_from, edit_first_part, edit_from, edit_list, edit_one_from, is_part, parts_from, elements, is_plus}
 use Rattle.bz_attribute.proofs.ListPieces.{edit_element_is, edit_first_part_is, edit_parts_are, parts_are}
-use Rattle.bz_attribute.specs.Lists.{edit_parts, may_be_in_sum, is_plus, parts}
-use Rattle.bz_attribute.specs.Rules.{elements}
+use Rattle.bz_attribute.specs.Lists.{edit_parts, may_be_in_sum, parts}
 use Rattle.bz_layout_laws.specs.EachText.{segs_pass}
 use Rattle.bz_laws.proofs.PassingTexts.{NodePasses, NodesPass, SegmentPasses, SegmentsPass, elements_pass, group_passes}
 use Rattle.bz_laws.proofs.Segments.{all_appended, either_way}

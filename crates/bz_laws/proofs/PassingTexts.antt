@@ -6,7 +6,8 @@ use Rattle.bz_tree.specs.declared.tree.GroupKind.{GroupKind}
 use Rattle.bz_tree.specs.Comments.{beside}
 use Rattle.bz_tree.specs.Tree.{Item, leaf, group, Segment, items_of, segs_of, segments}
 use Rattle.bz_layout_laws.specs.EachText.{item_passes, items_pass, segs_pass}
-use Rattle.bz_attribute.specs.Rules.{elements, first_named, is_named}
+use Rattle.bz_attribute.specs.Rules.{first_named, is_named}
+use Rattle.bz_attribute.specs.ListWalk.{elements}
 use Rattle.bz_attribute.specs.Lists.{with_value}
 use Rattle.bz_laws.proofs.Segments.{all_appended, either_way}
 use Rattle.bz_tree.proofs.Rows.FromParts.{segs_back}

@@ -4,9 +4,11 @@ use Rattle.std.specs.Prelude.{bytes_eq}
 use Rattle.bz_tree.specs.Tree.{Item, Segment, Statement}
 use Rattle.bz_attribute.specs.Rules.{Rule, kind_text, rule_of}
 use Rattle.bz_attribute.specs.declared.done.Done.{Done}
-use Rattle.bz_attribute.specs.Effects.{holds_rule, nodes_of, slot_done, with_args, done}
+use Rattle.bz_attribute.specs.Effects.{holds_rule, nodes_of, with_args}
+use Rattle.bz_attribute.specs.Reports.{slot_done, done}
 use Rattle.bz_attribute.specs.private.RuleNodes.{nodes_after}
-use Rattle.bz_rule.specs.Set.{kind_items, sets_kind_of, with_kind}
+use Rattle.bz_rule.specs.Set.{kind_items, with_kind}
+use Rattle.bz_rule.specs.Reports.{sets_kind_of}
 use Rattle.bz_rule.specs.private.Steps.{kind_after}
 use Rattle.bz_attribute.proofs.RuleNodes.{rule_nodes}
 use Rattle.bz_token.specs.Common.{map_or}

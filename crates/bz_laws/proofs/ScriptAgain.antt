@@ -22,7 +22,8 @@ use Rattle.bz_laws.proofs.MarksStay.{marks_stay}
 use Rattle.bz_engine.specs.Scripts.{AreCommands}
 use Rattle.bz_engine.proofs.ChangesLaw.{changes_tell}
 use Rattle.bz_engine.proofs.Failures.{failure_each}
-use Rattle.bz_engine.specs.Language.{changes, fails_on, meaning}
+use Rattle.bz_engine.specs.Language.{meaning}
+use Rattle.bz_engine.specs.Failing.{changes, fails_on}
 use Rattle.bz_engine.specs.Outcome.{Script, left_in, slots_of, some_failure}
 use Rattle.bz_laws.specs.Repeatable.{FindsNothing, HasNamesOnce, are_passes_apart, are_two_apart, each_apart, is_looked_past, is_repeatable, may_meet}
 use Rattle.bz_laws.specs.Written.{left_by}

@@ -12,16 +12,19 @@ use Rattle.bz_label.specs.declared.arguments.Chosen.TheVariants.{Values}
 use Rattle.bz_label.specs.declared.arguments.Setting.TheVariants.{ToKind, ToValues}
 use Rattle.bz_attribute.specs.Rules.{Rule, first_named, is_named, is_text, rule_of, value, kind_text}
 use Rattle.bz_attribute.specs.Lists.{is_attribute, parts}
-use Rattle.bz_attribute.specs.Effects.{argument, chooses, done, has, is_chosen, no_list_note, slot_done, string}
-use Rattle.bz_rule.specs.Add.{add, adds, fresh, new_elements}
-use Rattle.bz_engine.specs.Language.{fails}
-use Rattle.bz_rule.specs.Remove.{goes_with_all, remove, removes}
-use Rattle.bz_rule.specs.Replace.{is_replaced, replace, replaced, replaced_in, replaces, replaces_in}
-use Rattle.bz_rule.specs.Set.{new_of, new_value, set_if_absent, sets, sets_kind_of}
+use Rattle.bz_attribute.specs.Effects.{argument, has, is_chosen, no_list_note, string}
+use Rattle.bz_attribute.specs.Reports.{chooses, done, slot_done}
+use Rattle.bz_rule.specs.Add.{add}
+use Rattle.bz_rule.specs.Reports.{adds, removes, replaces, replaces_in, sets, sets_kind_of, prints, printed}
+use Rattle.bz_rule.specs.AddByValue.{fresh, new_elements}
+use Rattle.bz_engine.specs.Failing.{fails}
+use Rattle.bz_rule.specs.Remove.{goes_with_all, remove}
+use Rattle.bz_rule.specs.Replace.{is_replaced, replace, replaced, replaced_in}
+use Rattle.bz_rule.specs.Set.{new_of, new_value, set_if_absent}
 use Rattle.bz_attribute.specs.declared.done.Done.{Done}
 use Rattle.bz_attribute.specs.declared.done.Note.TheVariants.{NotAList}
 use Rattle.bz_label.specs.Names.{is_identifier}
-use Rattle.bz_rule.specs.Print.{missing, field_text, fields_of, prints, printed}
+use Rattle.bz_rule.specs.Print.{missing, field_text, fields_of}
 use Rattle.bz_rule.specs.declared.command.Action.TheVariants.{Add, Remove, Set, SetIfAbsent, Replace, Print}
 use Rattle.bz_rule.specs.Commands.{Command, after, args_after, args_done, done_of, is_command}
 use Rattle.bz_laws.specs.Again.{IsOnce, IsQuiet, IsSettled, is_steady, subject}

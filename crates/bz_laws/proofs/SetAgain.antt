@@ -6,8 +6,10 @@ use Rattle.bz_tree.specs.declared.tree.GroupKind.TheVariants.{RuleCall}
 use Rattle.bz_tree.specs.Tree.{Item, group, Segment, Statement, segs_of}
 use Rattle.bz_attribute.specs.Rules.{Rule, rule_of, kind_text, is_named, is_text, first_named, value}
 use Rattle.bz_attribute.specs.private.RuleSteps.{call_at}
-use Rattle.bz_attribute.specs.Effects.{argument, edit_first, nodes_of, string, done}
-use Rattle.bz_rule.specs.Set.{New, NewStrings, is_list_attribute, is_number, is_constant, new_word, new_of, new_value, is_value, set_in, set, sets, kind_items, with_kind, sets_kind_of}
+use Rattle.bz_attribute.specs.Effects.{argument, edit_first, nodes_of, string}
+use Rattle.bz_attribute.specs.Reports.{done}
+use Rattle.bz_rule.specs.Set.{New, NewStrings, is_list_attribute, is_number, is_constant, new_word, new_of, new_value, is_value, set_in, set, kind_items, with_kind}
+use Rattle.bz_rule.specs.Reports.{sets, sets_kind_of}
 use Rattle.bz_rule.specs.private.Steps.{kind_after}
 use Rattle.bz_attribute.proofs.Calls.{rule_at_end}
 use Rattle.bz_rule.proofs.Arguments.{attribute_named, name_put, same_bytes}

@@ -11,9 +11,11 @@ use Rattle.bz_layout_laws.specs.Spelled.{spelled}
 use Rattle.bz_label.specs.Labels.{Package}
 use Rattle.bz_rule.specs.declared.commands.field.Field.TheVariants.{ValueOf}
 use Rattle.bz_label.specs.declared.arguments.Setting.TheVariants.{ToValues}
-use Rattle.bz_attribute.specs.Effects.{argument, done}
+use Rattle.bz_attribute.specs.Effects.{argument}
+use Rattle.bz_attribute.specs.Reports.{done}
 use Rattle.bz_attribute.specs.Rules.{Rule, first_named, is_text, rule_of, string_value, value}
-use Rattle.bz_rule.specs.Print.{other_text, printed, value_text, word_form}
+use Rattle.bz_rule.specs.Print.{other_text, value_text, word_form}
+use Rattle.bz_rule.specs.Reports.{printed}
 use Rattle.bz_rule.specs.Set.{New, NewConstant, NewNumber, NewString, NewStrings, is_value, new_of, new_value, set, set_in}
 use Rattle.bz_rule.specs.private.Steps.{are_strings}
 use Rattle.bz_rule.specs.declared.command.Action.TheVariants.{Set}

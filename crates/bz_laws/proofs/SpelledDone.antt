@@ -13,13 +13,16 @@ use Rattle.bz_label.specs.declared.arguments.Chosen.{Chosen}
 use Rattle.bz_label.specs.declared.arguments.Chosen.TheVariants.{All, Values}
 use Rattle.bz_label.specs.declared.arguments.Setting.TheVariants.{ToKind, ToValues}
 use Rattle.bz_attribute.specs.Rules.{first_named, is_text, rule_of, string_value, value}
-use Rattle.bz_attribute.specs.Lists.{is_attribute, parts, same, only_list}
-use Rattle.bz_attribute.specs.Effects.{chooses, done, is_chosen, no_list_note, slot_done}
-use Rattle.bz_rule.specs.Add.{adds, fresh}
+use Rattle.bz_attribute.specs.Lists.{is_attribute, parts, only_list}
+use Rattle.bz_label.specs.Same.{same}
+use Rattle.bz_attribute.specs.Effects.{is_chosen, no_list_note}
+use Rattle.bz_attribute.specs.Reports.{chooses, done, slot_done}
+use Rattle.bz_rule.specs.Reports.{adds, replaces_in, sets}
+use Rattle.bz_rule.specs.AddByValue.{fresh}
 use Rattle.bz_attribute.specs.Marks.{marks}
 use Rattle.bz_rule.specs.Remove.{goes_with_all}
-use Rattle.bz_rule.specs.Replace.{is_replaced, replaces_in}
-use Rattle.bz_rule.specs.Set.{New, NewConstant, NewNumber, NewString, NewStrings, is_list_attribute, is_value, new_of, new_word, sets}
+use Rattle.bz_rule.specs.Replace.{is_replaced}
+use Rattle.bz_rule.specs.Set.{New, NewConstant, NewNumber, NewString, NewStrings, is_list_attribute, is_value, new_of, new_word}
 use Rattle.bz_rule.specs.private.Steps.{are_strings}
 use Rattle.bz_rule.specs.declared.command.Action.TheVariants.{Add, Remove, Set, SetIfAbsent, Delete, Replace, Comment, Print}
 use Rattle.bz_rule.specs.Commands.{Command, args_done, done_of}

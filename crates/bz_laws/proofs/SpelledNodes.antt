@@ -8,10 +8,10 @@ use Rattle.bz_tree.specs.declared.tree.GroupKind.TheVariants.{RuleCall, List as 
 use Rattle.bz_tree.specs.Tree.{Item, leaf, group, Items, no_items, item, Segs, no_segs, seg, Segment, list_of, segments, is_operator_item}
 use Rattle.bz_layout_laws.specs.Spelled.{spelled, spelled_items, spelled_segs}
 use Rattle.bz_layout_laws.proofs.SpelledValues.{respelled_value}
-use Rattle.bz_attribute.specs.Rules.{elements, first_named, ident_of, is_named, is_text, kind_text, name_of, rule_of, string_value, value}
+use Rattle.bz_attribute.specs.Rules.{first_named, ident_of, is_named, is_text, kind_text, name_of, rule_of, string_value, value}
+use Rattle.bz_attribute.specs.ListWalk.{elements, is_list, ends, is_part, parts_from, is_plus}
 use Rattle.bz_attribute.specs.private.RuleSteps.{call_at, dotted}
-use Rattle.bz_attribute.specs.Lists.{is_attribute, may_be_in_sum, is_plus, parts}
-use Rattle.bz_attribute.specs.ListWalk.{is_list, ends, is_part, parts_from}
+use Rattle.bz_attribute.specs.Lists.{is_attribute, may_be_in_sum, parts}
 use Rattle.bz_attribute.proofs.ListPieces.{parts_are}
 use Rattle.bz_attribute.specs.Effects.{has}
 use Rattle.bz_attribute.proofs.Calls.{ending, rule_at_end}

@@ -6,7 +6,7 @@ use Rattle.bz_tree.specs.declared.tree.GroupKind.TheVariants.{Call, RuleCall, Lo
 use Rattle.bz_tree.specs.declared.grammar.role.Role.{Role}
 use Rattle.bz_tree.specs.declared.grammar.role.Role.TheVariants.{Name, Number, Value, Dot, Equals, Augmented, If, Else, For, In, Not, Tilde, Sum, Star, Operator, Stray}
 use Rattle.bz_tree.specs.Tree.{Item, leaf, group, Items, no_items, item, Segs, is_call}
-use Rattle.bz_tree.specs.Statement.{is_load_word}
+use Rattle.bz_tree.specs.Kinds.{is_load_word}
 use Rattle.bz_tree.specs.private.Productions.{leaf_role, token_role, is_prefix, is_operator, is_assignment, join, IsBinOp, operator, not_in, IsTest, plain, conditional, IsChain, single, binary, IsTerm, primary, unary, IsPrimary, number, operand, AreSuffixes, no_suffix, member, suffix, IsSuffix, call, index, IsOperand, ident, text, paren, list, dict, list_comp, dict_comp, AreTests, AreArgs, IsExpr, last_test, test, IsLoad, load, IsStatement, comments, load_statement, expression, assignment}
 
 abbrev pub is_list_kind : GroupKind → Bool

@@ -52,7 +52,7 @@ x_read = record {
   upright = refl;
   some = refl;
   chunk = record {
-    tree = record { owns = node 1 (leaf_of name) ∷ []; nested = single refl no_token; is = refl };
+    tree = record { inners = node 1 (leaf_of name) ∷ []; nested = single refl no_token; is = refl };
     grammar = statement_form (expression (last_test (plain (one_term (primary (operand (ident refl) no_suffix))))));
   };
 }
@@ -83,7 +83,7 @@ remark_read : IsReadAs 3 (codes "# c\n") (note ∷ record { kind = Newline; text
 remark_read = record {
   upright = refl;
   some = refl;
-  chunk = record { tree = record { owns = comment 3 (codes "# c") ∷ []; nested = single refl no_token; is = refl }; grammar = statement_form comments };
+  chunk = record { tree = record { inners = comment 3 (codes "# c") ∷ []; nested = single refl no_token; is = refl }; grammar = statement_form comments };
 }
 
 on_lines : AreOnLines file_tokens 1 (chunks file) (x ∷ remark ∷ [])

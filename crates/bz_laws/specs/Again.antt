@@ -6,7 +6,7 @@ use Rattle.bz_label.specs.Labels.{Package, Target, Name, Pkg, All, Kind, Line}
 use Rattle.bz_label.specs.declared.arguments.Attributes.{Attributes}
 use Rattle.bz_label.specs.declared.arguments.Attributes.TheVariants.{Named}
 use Rattle.bz_label.specs.declared.arguments.Setting.TheVariants.{ToKind, ToValues}
-use Rattle.bz_engine.specs.Language.{fails}
+use Rattle.bz_engine.specs.Failing.{fails}
 use Rattle.bz_attribute.specs.Rules.{is_named}
 use Rattle.bz_attribute.specs.declared.done.Done.{Done}
 use Rattle.bz_rule.specs.declared.command.Action.TheVariants.{Add, Remove, Set, SetIfAbsent, Replace, Print}

@@ -4,7 +4,7 @@ ghost use Rattle.std.specs.Prelude.{◌≡◌, List, Some, map, false, true};
 ghost use Rattle.std.specs.List.{list_all};
 ghost use Rattle.bz_tree.specs.Tree.{Statement};
 ghost use Rattle.bz_layout_laws.specs.Spelled.{spelled};
-ghost use Rattle.bz_engine.specs.Language.{fails};
+ghost use Rattle.bz_engine.specs.Failing.{fails};
 ghost use Rattle.bz_attribute.specs.Marks.{marks};
 ghost use Rattle.bz_label.specs.Labels.{Package, Target};
 ghost use Rattle.bz_rule.specs.Commands.{Command, after, done_of, is_command};

@@ -21,6 +21,7 @@ ghost use Rattle.bz_label.specs.Labels.{Package};
 ghost use Rattle.bz_label.specs.declared.arguments.Attributes.{Attributes};
 ghost use Rattle.bz_label.specs.declared.arguments.Chosen.{Chosen};
 ghost use Rattle.bz_rule.specs.Add as add;
+ghost use Rattle.bz_rule.specs.AddByValue.{new_elements, with_added};
 ghost use Rattle.bz_attribute.specs.Effects as effects;
 ghost use Rattle.bz_rule.specs.Rename as rename;
 ghost use Rattle.bz_rule.specs.Replace as replace;
@@ -53,7 +54,7 @@ pub fn elements_keep_comments()
         → parts (value b) ≡ map (effects.unchosen home chosen) (parts (value a)) }
     ensures add { (home : Package) (values : List (List ℕ)) (a : Segment) (ss : List Segment)
         (lists : List (List Segment)) → is_attribute a ≡ true → parts (value a) ≡ ss ∷ lists
-        → parts (value (add.with_added home values a)) ≡ (ss ++ add.new_elements home (ss ∷ lists) values)
+        → parts (value (with_added home values a)) ≡ (ss ++ new_elements home (ss ∷ lists) values)
         ∷ lists }
     ensures replace { (home : Package) (old new : List ℕ) (a : Segment) → is_attribute a ≡ true
         → parts (value (replace.replaced_in home old new a))

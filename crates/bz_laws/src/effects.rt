@@ -14,6 +14,7 @@ ghost use Rattle.bz_attribute.specs.Rules.{first_named, is_named};
 ghost use Rattle.bz_token.specs.Common.{map_or};
 ghost use Rattle.bz_rule.specs.Add as add;
 ghost use Rattle.bz_attribute.specs.Effects as effects;
+ghost use Rattle.bz_attribute.specs.Reports.{chooses};
 ghost use Rattle.bz_rule.specs.Remove as remove;
 
 /// Where `add` does not fail, an element equals each of its values afterwards, so `remove` finds them.
@@ -22,7 +23,7 @@ pub fn added_values_are_found()
     ensures { (home : Package) (attr : List ℕ) (values : List (List ℕ)) (args : List Segment)
         → effects.no_list_note attr (first_named attr args) ≡ None
         → list_all
-        (λ v. map_or false (effects.chooses home (Values (v ∷ [])))
+        (λ v. map_or false (chooses home (Values (v ∷ [])))
         (first_named attr (add.add home attr values args))) values
         ≡ true }
 {}
@@ -51,14 +52,14 @@ pub fn removed_is_gone()
         → list_any remove.goes_with_all (remove.remove home Every [] args) ≡ false }
     ensures values { (home : Package) (attr : List ℕ) (values : List (List ℕ)) (args : List Segment)
         → length (filter (is_named attr) args) ≤ 1
-        → map_or false (effects.chooses home (Values values))
+        → map_or false (chooses home (Values values))
         (first_named attr (remove.remove home (Named attr) values args))
         ≡ false }
     ensures everywhere { (home : Package) (values : List (List ℕ)) (args : List Segment)
-        → list_any (λ a. is_attribute a && effects.chooses home (Values values) a)
+        → list_any (λ a. is_attribute a && chooses home (Values values) a)
         (remove.remove home Every values args) ≡ false }
     ensures edited { (home : Package) (values : List (List ℕ)) (a : Segment) → is_attribute a ≡ true
-        → list_any (effects.chooses home (Values values)) (effects.filtered (effects.unchosen home (Values values)) a)
+        → list_any (chooses home (Values values)) (effects.filtered (effects.unchosen home (Values values)) a)
         ≡ false }
     ensures rest { (home : Package) (attr : List ℕ) (values : List (List ℕ)) (front rest : List Segment) (a : Segment)
         → effects.has attr front ≡ false → is_named attr a ≡ true

@@ -15,7 +15,8 @@ use Rattle.bz_layout.specs.declared.spacing.Gap.TheVariants.{Closed, Space, Line
 use Rattle.bz_layout.specs.declared.broken.Style.{Style}
 use Rattle.bz_layout.specs.declared.broken.Style.TheVariants.{Flat, Broken}
 use Rattle.bz_layout.specs.Pieces.{Piece, piece, are_lined, begins_line, bytes_of, comma_if, comment_lines, comments, suffix_piece}
-use Rattle.bz_layout.specs.Spacing.{is_operator, begins_operand, is_index, no_space_after}
+use Rattle.bz_layout.specs.Spacing.{begins_operand, is_index, no_space_after}
+use Rattle.bz_tree.specs.Tree.{is_operator_among}
 use Rattle.bz_layout.specs.Spacing as spacing
 use Rattle.bz_layout.specs.Broken.{breaks_by_count, has_comment}
 use Rattle.bz_layout.specs.Broken as broken
@@ -66,10 +67,10 @@ begins_if within text false true = refl
 begins_if within text false false = refl
 
 abbrev stars : List ℕ → Bool
-stars text = is_operator (codes "*" ∷ codes "**" ∷ []) (leaf Operator text)
+stars text = is_operator_among (codes "*" ∷ codes "**" ∷ []) (leaf Operator text)
 
 begins : (within : Option GroupKind) (before : List Item) (text : List ℕ)
-    → begins_argument within (edge within before) text ≡ (is_operator (codes "*" ∷ codes "**" ∷ []) (leaf Operator text) && is_empty before && map_or false is_call within)
+    → begins_argument within (edge within before) text ≡ (is_operator_among (codes "*" ∷ codes "**" ∷ []) (leaf Operator text) && is_empty before && map_or false is_call within)
 begins within [] text = and_two (map_or false is_call within) (bytes_eq text (codes "*")) (bytes_eq text (codes "**"))
 begins within (leaf Operator t ∷ before) text = begins_if within text _ _ ∙ sym (and_none (stars text) (map_or false is_call within))
 begins within (leaf Keyword t ∷ before) text = sym (and_none (stars text) (map_or false is_call within))
@@ -77,10 +78,10 @@ begins within (leaf _ t ∷ before) text = sym (and_none (stars text) (map_or fa
 begins within (group kind segs one_comma end ∷ before) text = sym (and_none (stars text) (map_or false is_call within))
 
 prefix : (within : Option GroupKind) (before : List Item) (text : List ℕ)
-    → is_prefix (edge within before) text ≡ (is_operator (codes "+" ∷ codes "-" ∷ codes "~" ∷ []) (leaf Operator text) && begins_operand before)
+    → is_prefix (edge within before) text ≡ (is_operator_among (codes "+" ∷ codes "-" ∷ codes "~" ∷ []) (leaf Operator text) && begins_operand before)
 prefix within before text = rw (awaits within before) (and_three (begins_operand before) (bytes_eq text (codes "+")) (bytes_eq text (codes "-")) (bytes_eq text (codes "~")))
 
-colon : (within : Option GroupKind) (text : List ℕ) → is_index_colon within text ≡ (is_operator (codes ":" ∷ []) (leaf Operator text) && map_or false is_index within)
+colon : (within : Option GroupKind) (text : List ℕ) → is_index_colon within text ≡ (is_operator_among (codes ":" ∷ []) (leaf Operator text) && map_or false is_index within)
 colon None text = sym (and-false _)
 colon (Some Index) text = sym (and-true _ ∙ or-false _)
 colon (Some _) text = sym (and-false _)

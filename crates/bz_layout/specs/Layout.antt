@@ -18,7 +18,7 @@ use Rattle.bz_layout.specs.Spacing.{gap_before}
 use Rattle.bz_layout.specs.Broken.{is_broken}
 use Rattle.bz_layout.specs.Pieces.{Piece, piece, are_lined, bytes_of, comma_if, comments, comment_lines, suffix_piece}
 
--- the opening and the closing bracket of a group
+-- the opening and the closing bracket of a group, by its kind (`group_kind` of bz_tree goes the other way)
 abbrev pub brackets : GroupKind → List ℕ × List ℕ
 brackets ListKind = (codes "[", codes "]")
 brackets Index = (codes "[", codes "]")

@@ -1,6 +1,6 @@
 -- A written text as pieces: tokens and comments, each after its gap (this project's own form of a layout).
--- `Gap` is an enum of `src/spacing.rt`. Other pieces are those of reads (stop 1), of a value (stop 5,
--- `Lists`) and of a text that is read (stop 8).
+-- `Gap` is an enum of `src/spacing.rt`. Other pieces are those of reads (bz_devices `Device`), of a value
+-- (bz_attribute `Lists`), of a file that is cut and of a text that is read (bz_token `Pieces`, `Reading`).
 -- Begin with `Piece` and `bytes_of`.
 use Rattle.std.specs.Prelude.{codes, ℕ, zero, suc, List, [], ◌∷◌, ◌++◌, Bool, true, false, if◌then◌else◌, Option, map, flat_map}
 use Rattle.std.specs.List.{list_any}
@@ -41,7 +41,7 @@ begins_line _ = false
 abbrev pub are_lined : List Piece → Bool
 are_lined ps = list_any (λ p. begins_line p.gap) ps
 
--- the bytes that are written for pieces
+-- the bytes that are written for pieces (in bz_token, `bytes_of` are those that pieces were read from)
 abbrev pub bytes_of : List Piece → List ℕ
 bytes_of [] = []
 bytes_of (p ∷ ps) = gap_bytes p.gap ++ (p.text ++ bytes_of ps)

@@ -2,20 +2,15 @@
 -- Begin with `gap_before`.
 -- Everywhere `within` is the kind of the group around the nodes, and `before` what stands before a node, the
 -- nearest first.
-use Rattle.std.specs.Prelude.{codes, List, [], ◌∷◌, ℕ, Bool, true, false, not, ◌&&◌, ◌||◌, if◌then◌else◌, Option, bytes_eq}
-use Rattle.std.specs.List.{list_any}
+use Rattle.std.specs.Prelude.{codes, List, [], ◌∷◌, Bool, true, false, not, ◌&&◌, ◌||◌, if◌then◌else◌, Option, bytes_eq}
 use Rattle.bz_token.specs.declared.token.Kind.TheVariants.{Keyword, Operator}
 use Rattle.bz_tree.specs.declared.tree.GroupKind.{GroupKind}
 use Rattle.bz_tree.specs.declared.tree.GroupKind.TheVariants.{Load, Index}
 use Rattle.bz_layout.specs.declared.spacing.Gap.{Gap}
 use Rattle.bz_layout.specs.declared.spacing.Gap.TheVariants.{Closed, Space}
-use Rattle.bz_tree.specs.Tree.{Item, leaf, group, is_call}
+use Rattle.bz_tree.specs.Tree.{Item, leaf, group, is_operator_among, is_call}
+use Rattle.bz_tree.specs.Grammar.{prefix_signs, stars}
 use Rattle.bz_token.specs.Common.{is_empty, map_or}
-
--- one of these operators
-abbrev pub is_operator : List (List ℕ) → Item → Bool
-is_operator texts (leaf Operator text) = list_any (bytes_eq text) texts
-is_operator texts _ = false
 
 -- a group that stands directly after what comes before it
 abbrev pub is_group_without_space : GroupKind → Bool
@@ -25,7 +20,7 @@ is_group_without_space kind = is_call kind
 
 -- no space stands before `.`, `,`, `:` and such a group
 abbrev pub no_space_before : Item → Bool
-no_space_before (leaf kind text) = is_operator (codes "." ∷ codes "," ∷ codes ":" ∷ []) (leaf kind text)
+no_space_before (leaf kind text) = is_operator_among (codes "." ∷ codes "," ∷ codes ":" ∷ []) (leaf kind text)
 no_space_before (group kind segs one_comma end) = is_group_without_space kind
 
 -- where an operand begins: at the start, after a keyword and after an operator other than `.`
@@ -43,10 +38,10 @@ is_index _ = false
 -- no space stands after `.`, a prefix operator, the star that begins an argument and the colon of an index
 abbrev pub no_space_after : Option GroupKind → List Item → Item → Bool
 no_space_after within before x =
-    is_operator (codes "." ∷ []) x
-    || is_operator (codes "+" ∷ codes "-" ∷ codes "~" ∷ []) x && begins_operand before
-    || is_operator (codes "*" ∷ codes "**" ∷ []) x && is_empty before && map_or false is_call within
-    || is_operator (codes ":" ∷ []) x && map_or false is_index within
+    is_operator_among (codes "." ∷ []) x
+    || is_operator_among prefix_signs x && begins_operand before
+    || is_operator_among stars x && is_empty before && map_or false is_call within
+    || is_operator_among (codes ":" ∷ []) x && map_or false is_index within
 
 -- the gap before x, where `first` stands before the first node
 abbrev pub gap_before : Option GroupKind → Gap → List Item → Item → Gap

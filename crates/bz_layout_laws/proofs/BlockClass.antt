@@ -6,7 +6,8 @@ use Rattle.bz_token.specs.declared.token.Kind.TheVariants.{Kept}
 use Rattle.bz_tree.specs.declared.tree.Class.{Class}
 use Rattle.bz_tree.specs.declared.tree.Class.TheVariants.{Load, Assign, Rule, Other, Block}
 use Rattle.bz_tree.specs.Chunk.{IsOneOf, IsStatementIn}
-use Rattle.bz_tree.specs.Statement.{class_of, is_load_word, first_token, is_assign}
+use Rattle.bz_tree.specs.Statement.{class_of, first_token, is_assign}
+use Rattle.bz_tree.specs.Kinds.{is_load_word}
 use Rattle.bz_tree.specs.Tree.{Item, leaf, group, Statement, items_of, is_rule}
 use Rattle.bz_layout_laws.specs.BlockIn.{IsBlockIn}
 use Rattle.bz_layout_laws.specs.TextsOfKinds.{HaveTexts}

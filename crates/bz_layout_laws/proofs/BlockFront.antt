@@ -13,7 +13,6 @@ use Rattle.bz_token.specs.Brackets.{is_line}
 use Rattle.bz_token.specs.Chunks.{after_comments}
 use Rattle.bz_token.specs.Ends.{is_comment_kind, ends}
 use Rattle.bz_token.specs.FreshStart.{ends_in_line}
-use Rattle.bz_token.specs.Lexical.{is_newline}
 use Rattle.bz_token.specs.LogicalLines.{Line}
 use Rattle.bz_token.specs.Places.{column_from, column_at}
 use Rattle.bz_token.specs.Reading.{is_gap, Piece, bytes_of}
@@ -28,7 +27,7 @@ use Rattle.bz_layout_laws.proofs.BlockHead.{by_word, blank_no_line}
 use Rattle.bz_layout_laws.proofs.BlockLines.{cut_line, keep_line}
 use Rattle.bz_layout_laws.proofs.BlockParts.{is_aside_piece}
 use Rattle.bz_token.specs.Lexical.{is_text}
-use Rattle.bz_token.specs.Common.{is_empty}
+use Rattle.bz_token.specs.Common.{is_empty, is_newline}
 use Rattle.bz_token.specs.Pieces.{is_blank}
 use Rattle.bz_token.specs.private.Gaps.{continues_gap}
 

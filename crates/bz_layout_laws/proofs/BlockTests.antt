@@ -7,7 +7,8 @@ use Rattle.bz_token.specs.declared.token.Kind.{Kind}
 use Rattle.bz_token.specs.declared.token.Kind.TheVariants.{Newline, Comment as CommentToken}
 use Rattle.bz_token.specs.Brackets.{is_line, fits, open_after_token}
 use Rattle.bz_token.specs.Ends.{ends, stops_at}
-use Rattle.bz_token.specs.Lexical.{is_newline, is_text}
+use Rattle.bz_token.specs.Lexical.{is_text}
+use Rattle.bz_token.specs.Common.{is_newline}
 use Rattle.bz_token.specs.Reading.{is_gap, Piece, open_after, bytes_of}
 use Rattle.bz_token.proofs.Stops.{newline_stops}
 use Rattle.bz_layout_laws.specs.Readable.{are_texts, are_ended, are_fitting}

@@ -62,11 +62,11 @@ comments_read first depth s legible parsed room grammar class =
     let tokens = tokens_back first s in
     let found = statement_reads first depth s tokens legible parsed room (lines_are_tokens first depth (layout_text s) tokens (read_lines first depth s legible room)) in
     let tree = found.1 in
-    let t = statement_with all (segment_of tree.owns) in
+    let t = statement_with all (segment_of tree.inners) in
     let same : lineless t ≡ lineless (spelled_statement s) = sym (ap lineless tree.is) ∙ found.2 in
     let none = no_token first s class in
     let plain : IsPlain all t = record {
-      tree = record { owns = tree.owns; nested = subst (λ ts. AreNested Other ts tree.owns) (sym (seen_same first s)) tree.nested; is = refl };
+      tree = record { inners = tree.inners; nested = subst (λ ts. AreNested Other ts tree.inners) (sym (seen_same first s)) tree.nested; is = refl };
       grammar = grammar_stays s t same grammar;
     } in (
       t,

@@ -19,7 +19,7 @@ use Rattle.bz_tree.specs.declared.tree.kinds.Mark.TheVariants.{Open, Close, Comm
 use Rattle.bz_tree.specs.declared.tree.kinds.Preceding.{Preceding}
 use Rattle.bz_tree.specs.declared.tree.kinds.Preceding.TheVariants.{Other}
 use Rattle.bz_tree.specs.declared.tree.kinds.Shape.TheVariants.{Round, Square, Curly}
-use Rattle.bz_tree.specs.Brackets.{own_items, preceding, is_line, without_lines, end_line}
+use Rattle.bz_tree.specs.Brackets.{with_comma_nodes, preceding, is_line, without_lines, end_line}
 use Rattle.bz_tree.specs.Elements.{has_for}
 use Rattle.bz_tree.specs.Elements.{Elem, single, bracket, Elems, no_elems, elem, elems_tokens, own_of, elem_own, elems_own, is_single, AreWell}
 use Rattle.bz_tree.specs.Kinds.{mark_of, kind_mark, operator_mark, group_kind, is_one}
@@ -237,8 +237,8 @@ all_depth : (n : ℕ) (ss : Segs) → EachSegment (IsNoDeeper n) is_comment ss �
 all_depth n no_segs h = least n
 all_depth n (seg before nodes suffix ss) h = most (items_depth nodes) (segs_depth ss) n (nodes_depth n nodes h.2) (all_depth n ss h.4)
 
-more_depth : (n : ℕ) (one : Bool) (at : Last) (m : Mark) (t : Placed) (owns : List Inner) → mark_of t ≡ m → is_single m ≡ true → is_token_text t ≡ true → ((last : Last) → Each (IsNoDeeper n) is_comment (entries_of last (own_items one owns)))
-    → Each (IsNoDeeper n) is_comment (entries_of at (own_items one (own_of m t ∷ owns)))
+more_depth : (n : ℕ) (one : Bool) (at : Last) (m : Mark) (t : Placed) (owns : List Inner) → mark_of t ≡ m → is_single m ≡ true → is_token_text t ≡ true → ((last : Last) → Each (IsNoDeeper n) is_comment (entries_of last (with_comma_nodes one owns)))
+    → Each (IsNoDeeper n) is_comment (entries_of at (with_comma_nodes one (own_of m t ∷ owns)))
 more_depth n true at Comma t owns e ok is rest = (least n, rest (end_of_node t.line))
 more_depth n false at Comma t owns e ok is rest = rest (end_of_comma t.line)
 more_depth n true at Comment t owns e ok is rest = (comment_text t.kind t.text e is, rest no_token)
@@ -249,17 +249,17 @@ more_depth n one at (Open shape) t owns e ok is rest = absurd (false≢true ok)
 more_depth n one at (Close shape) t owns e ok is rest = absurd (false≢true ok)
 more_depth n one at Newline t owns e ok is rest = absurd (false≢true ok)
 
-depth_along : (n : ℕ) (one : Bool) (at : Last) (b : Preceding) (xs : Elems) → AreWell b xs → ElemsTexts is_token_text xs → elems_depth xs ≤ n → Each (IsNoDeeper n) is_comment (entries_of at (own_items one (elems_own b xs)))
+depth_along : (n : ℕ) (one : Bool) (at : Last) (b : Preceding) (xs : Elems) → AreWell b xs → ElemsTexts is_token_text xs → elems_depth xs ≤ n → Each (IsNoDeeper n) is_comment (entries_of at (with_comma_nodes one (elems_own b xs)))
 depth_along n one at b no_elems h texts deep = tt
 depth_along n one at b (elem (single t) xs) h texts deep =
     more_depth n one at (mark_of t) t (elems_own (preceding b (own_of (mark_of t) t)) xs) refl h.0 texts.0 (λ last. depth_along n one last (preceding b (own_of (mark_of t) t)) xs h.1 texts.1 (right_of 0 (elems_depth xs) n deep))
 depth_along n true at b (elem (bracket shape opening inner closing) xs) h texts deep =
     let one = is_one (group_kind shape b (has_for (elems_own Other inner))) in
-    let i = inside_each (IsNoDeeper (elems_depth inner)) is_comment (entries_of no_token (own_items one (elems_own Other inner))) (depth_along (elems_depth inner) one no_token Other inner h.0.2 texts.0 (same (elems_depth inner))) in
+    let i = inside_each (IsNoDeeper (elems_depth inner)) is_comment (entries_of no_token (with_comma_nodes one (elems_own Other inner))) (depth_along (elems_depth inner) one no_token Other inner h.0.2 texts.0 (same (elems_depth inner))) in
     (one_deeper _ (elems_depth inner) n (all_depth (elems_depth inner) _ i.0) (left_of (suc (elems_depth inner)) (elems_depth xs) n deep), depth_along n true (end_of_node closing.line) _ xs h.1 texts.1 (right_of (suc (elems_depth inner)) (elems_depth xs) n deep))
 depth_along n false at b (elem (bracket shape opening inner closing) xs) h texts deep =
     let one = is_one (group_kind shape b (has_for (elems_own Other inner))) in
-    let i = inside_each (IsNoDeeper (elems_depth inner)) is_comment (entries_of no_token (own_items one (elems_own Other inner))) (depth_along (elems_depth inner) one no_token Other inner h.0.2 texts.0 (same (elems_depth inner))) in
+    let i = inside_each (IsNoDeeper (elems_depth inner)) is_comment (entries_of no_token (with_comma_nodes one (elems_own Other inner))) (depth_along (elems_depth inner) one no_token Other inner h.0.2 texts.0 (same (elems_depth inner))) in
     (one_deeper _ (elems_depth inner) n (all_depth (elems_depth inner) _ i.0) (left_of (suc (elems_depth inner)) (elems_depth xs) n deep), depth_along n false (end_of_node closing.line) _ xs h.1 texts.1 (right_of (suc (elems_depth inner)) (elems_depth xs) n deep))
 
 -- the call of a rule is as deep as one that is none
@@ -283,12 +283,12 @@ segment_depth n (s ∷ ss) end h = left_of (items_depth (items_of s.nodes)) (seg
 pub read_depth : (first depth : ℕ) (bytes : List ℕ) (tokens : List Placed) (t : Statement) → AreTokensOf first depth bytes tokens → IsStatementOf tokens t → depth_of t ≤ depth
 read_depth first depth bytes tokens t are of =
     let is = tree_of tokens t of in
-    let i = inside (own_items true (elems_own Other is.elems)) in
+    let i = inside (with_comma_nodes true (elems_own Other is.elems)) in
     let s = one_segment i.segs i.end in
     let whole = tokens_are_texts first depth bytes tokens are in
     let texts = elems_texts is_token_text is.elems (subst (λ ts. list_all is_token_text ts ≡ true) is.tokens_are (unlined_texts is_token_text tokens whole)) in
     let fit : FitTokens depth [] tokens = subst (FitTokens depth []) (sym are.5) (tokens_fit first depth [] [] [] are.0 are.1 bytes are.2) in
     let own : FitTokens depth [] (elems_tokens is.elems ++ []) = subst (FitTokens depth []) (is.tokens_are ∙ sym (append-nil (elems_tokens is.elems))) (unlined_fit depth [] tokens whole fit) in
     let deep = no_more (elems_depth is.elems) depth (room_along depth [] Other is.elems [] is.well texts (least depth) own).0 in
-    let each = inside_each (IsNoDeeper depth) is_comment (entries_of no_token (own_items true (elems_own Other is.elems))) (depth_along depth true no_token Other is.elems is.well texts deep) in
+    let each = inside_each (IsNoDeeper depth) is_comment (entries_of no_token (with_comma_nodes true (elems_own Other is.elems))) (depth_along depth true no_token Other is.elems is.well texts deep) in
     subst (λ (n : ℕ). n ≤ depth) (sym (ap depth_of is.is ∙ rule_depth s.nodes)) (segment_depth depth i.segs i.end (all_depth depth (segs_of i.segs) each.0))

@@ -6,7 +6,6 @@ use Rattle.std.proofs.lemmas.Bool.{false≢true, eqb-true}
 use Rattle.std.proofs.lemmas.List.{map-append}
 use Rattle.bz_token.specs.declared.token.Kind.{Kind}
 use Rattle.bz_token.specs.declared.token.Kind.TheVariants.{Operator, Newline, Comment}
-use Rattle.bz_token.specs.Lexical.{is_newline}
 use Rattle.bz_token.specs.Ends.{stops_at, ends}
 use Rattle.bz_token.specs.Reading.{bytes_of as bytes_read}
 use Rattle.bz_layout_laws.specs.Readable.{are_ended}
@@ -28,7 +27,7 @@ use Rattle.bz_layout_laws.specs.ReadPieces.{read_piece, read_pieces}
 use Rattle.bz_layout_laws.proofs.OwnLayout.{line_by}
 use Rattle.bz_layout_laws.proofs.Texts.{both, either_way}
 use Rattle.bz_layout_laws.proofs.Stopping.{before, stops_all, may_stand, stops_may, newline_stops_all, leaf_ended, edge_started, next_stands}
-use Rattle.bz_token.specs.Common.{begins}
+use Rattle.bz_token.specs.Common.{begins, is_newline}
 
 pub read_bytes : (ps : List Piece) → bytes_read (read_pieces ps) ≡ bytes_of ps
 read_bytes [] = refl

@@ -9,7 +9,7 @@ use Rattle.bz_token.specs.Blocks.{goes_on}
 use Rattle.bz_token.specs.Brackets.{is_line}
 use Rattle.bz_token.specs.Ends.{ends}
 use Rattle.std.specs.List.{list_any}
-use Rattle.bz_token.specs.Lexical.{is_comment as is_comment_text, is_newline, ends_blank, is_text}
+use Rattle.bz_token.specs.Lexical.{is_comment as is_comment_text, ends_blank, is_text}
 use Rattle.bz_token.specs.Reading.{bytes_of as bytes_read}
 use Rattle.bz_token.proofs.Stops.{token_ended}
 use Rattle.bz_layout_laws.specs.Readable.{are_texts, are_ended}
@@ -30,7 +30,7 @@ use Rattle.bz_layout_laws.proofs.Ended.{read_bytes, line_ended}
 use Rattle.bz_layout_laws.proofs.NoBrackets.{leaf_line}
 use Rattle.bz_layout_laws.proofs.OwnLayout.{line_by, text_own}
 use Rattle.bz_layout_laws.proofs.Texts.{line_whole}
-use Rattle.bz_token.specs.Common.{is_filled}
+use Rattle.bz_token.specs.Common.{is_filled, is_newline}
 
 -- the first node is a word of a branch
 abbrev pub begins_branch : Items → Bool

@@ -7,7 +7,7 @@ use Rattle.bz_token.specs.Places.{Placed}
 use Rattle.bz_tree.specs.declared.tree.kinds.Mark.{Mark}
 use Rattle.bz_tree.specs.declared.tree.kinds.Mark.TheVariants.{Open, Close, Comma, Comment, Newline, Plain}
 use Rattle.bz_tree.specs.declared.tree.kinds.Preceding.{Preceding}
-use Rattle.bz_tree.specs.Brackets.{leaf_of, own_items, preceding, is_for_item, end_line}
+use Rattle.bz_tree.specs.Brackets.{leaf_of, with_comma_nodes, preceding, is_for_item, end_line}
 use Rattle.bz_tree.specs.Elements.{has_for}
 use Rattle.bz_tree.specs.Elements.{single, bracket, Elems, no_elems, elem, own_of, elems_own, is_single, AreWell}
 use Rattle.bz_tree.specs.Kinds.{mark_of}
@@ -27,23 +27,23 @@ entries_have_for (a_comma ∷ es) = false
 entries_have_for (a_comment on text ∷ es) = entries_have_for es
 
 -- one more token
-one_more : (one : Bool) (at : Last) (m : Mark) (t : Placed) (owns : List Inner) → mark_of t ≡ m → is_single m ≡ true → ((last : Last) → has_for owns ≡ entries_have_for (entries_of last (own_items one owns)))
-    → has_for (own_of m t ∷ owns) ≡ entries_have_for (entries_of at (own_items one (own_of m t ∷ owns)))
-one_more true at Comma t owns e ok rest = ap (λ m. if is_comma_mark m then false else (is_for_item (leaf_of t) || entries_have_for (entries_of (end_of_node t.line) (own_items true owns)))) (sym e)
+one_more : (one : Bool) (at : Last) (m : Mark) (t : Placed) (owns : List Inner) → mark_of t ≡ m → is_single m ≡ true → ((last : Last) → has_for owns ≡ entries_have_for (entries_of last (with_comma_nodes one owns)))
+    → has_for (own_of m t ∷ owns) ≡ entries_have_for (entries_of at (with_comma_nodes one (own_of m t ∷ owns)))
+one_more true at Comma t owns e ok rest = ap (λ m. if is_comma_mark m then false else (is_for_item (leaf_of t) || entries_have_for (entries_of (end_of_node t.line) (with_comma_nodes true owns)))) (sym e)
 one_more false at Comma t owns e ok rest = refl
 one_more true at Comment t owns e ok rest = rest no_token
 one_more false at Comment t owns e ok rest = rest no_token
 one_more true at Plain t owns e ok rest =
     ap (λ b. is_for_item (leaf_of t) || b) (rest (end_of_node (end_line t)))
-    ∙ ap (λ m. if is_comma_mark m then false else (is_for_item (leaf_of t) || entries_have_for (entries_of (end_of_node (end_line t)) (own_items true owns)))) (sym e)
+    ∙ ap (λ m. if is_comma_mark m then false else (is_for_item (leaf_of t) || entries_have_for (entries_of (end_of_node (end_line t)) (with_comma_nodes true owns)))) (sym e)
 one_more false at Plain t owns e ok rest =
     ap (λ b. is_for_item (leaf_of t) || b) (rest (end_of_node (end_line t)))
-    ∙ ap (λ m. if is_comma_mark m then false else (is_for_item (leaf_of t) || entries_have_for (entries_of (end_of_node (end_line t)) (own_items false owns)))) (sym e)
+    ∙ ap (λ m. if is_comma_mark m then false else (is_for_item (leaf_of t) || entries_have_for (entries_of (end_of_node (end_line t)) (with_comma_nodes false owns)))) (sym e)
 one_more one at (Open shape) t owns e ok rest = absurd (false≢true ok)
 one_more one at (Close shape) t owns e ok rest = absurd (false≢true ok)
 one_more one at Newline t owns e ok rest = absurd (false≢true ok)
 
-pub owns_have_for : (one : Bool) (at : Last) (b : Preceding) (xs : Elems) → AreWell b xs → has_for (elems_own b xs) ≡ entries_have_for (entries_of at (own_items one (elems_own b xs)))
+pub owns_have_for : (one : Bool) (at : Last) (b : Preceding) (xs : Elems) → AreWell b xs → has_for (elems_own b xs) ≡ entries_have_for (entries_of at (with_comma_nodes one (elems_own b xs)))
 owns_have_for one at b no_elems h = refl
 owns_have_for one at b (elem (single t) xs) h =
     one_more one at (mark_of t) t (elems_own (preceding b (own_of (mark_of t) t)) xs) refl h.0 (λ last. owns_have_for one last (preceding b (own_of (mark_of t) t)) xs h.1)
@@ -98,6 +98,6 @@ written_for trailing (seg before nodes suffix ss) end =
     lines_for before (map a_node (list_of nodes) ++ after) ∙ nodes_for nodes after (after_for trailing suffix ss end)
 
 -- so of a bracket whose entries are these
-pub same_for : (one trailing : Bool) (b : Preceding) (xs : Elems) (ss : Segs) (end : List (List ℕ)) → AreWell b xs → entries_of no_token (own_items one (elems_own b xs)) ≡ written_entries trailing (segments ss) end
+pub same_for : (one trailing : Bool) (b : Preceding) (xs : Elems) (ss : Segs) (end : List (List ℕ)) → AreWell b xs → entries_of no_token (with_comma_nodes one (elems_own b xs)) ≡ written_entries trailing (segments ss) end
     → has_for (elems_own b xs) ≡ have_for ss
 same_for one trailing b xs ss end well e = owns_have_for one no_token b xs well ∙ ap entries_have_for e ∙ written_for trailing ss end

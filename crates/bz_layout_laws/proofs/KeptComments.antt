@@ -13,7 +13,7 @@ use Rattle.bz_tree.specs.Kinds.{mark_of, group_kind, is_one}
 use Rattle.bz_tree.specs.Owners.{Inner, node, comma, comment, Inside}
 use Rattle.bz_tree.specs.Cells.{Last, no_token, end_of_node, end_of_comma, is_on, inside, no_empty_cell}
 use Rattle.bz_tree.specs.private.KindSteps.{own_item}
-use Rattle.bz_tree.specs.Brackets.{own_items, preceding, is_line, without_lines}
+use Rattle.bz_tree.specs.Brackets.{with_comma_nodes, preceding, is_line, without_lines}
 use Rattle.bz_tree.specs.Elements.{has_for}
 use Rattle.bz_tree.specs.Elements.{group_of}
 use Rattle.bz_tree.specs.Elements.{Elem, single, bracket, Elems, no_elems, elem, elem_tokens, elems_tokens, elem_own, elems_own, own_of, is_single, IsWell, AreWell}
@@ -329,7 +329,7 @@ own_item_owners true (comma t) = refl
 own_item_owners true (comment line text) = refl
 own_item_owners false o = refl
 
-items_spelled : (one : Bool) (os : List Inner) (texts : List (List ℕ)) → AreSpelled os texts → AreSpelled (own_items one os) texts
+items_spelled : (one : Bool) (os : List Inner) (texts : List (List ℕ)) → AreSpelled os texts → AreSpelled (with_comma_nodes one os) texts
 items_spelled one [] texts s = s
 items_spelled one (o ∷ os) texts s = (s.0, s.1, s.2, subst (AreMixed s.0) (sym (own_item_owners one o)) s.3, items_spelled one os s.1 s.4)
 
@@ -345,8 +345,8 @@ single_mixed Newline t alone = absurd (false≢true alone)
 single_mixed (Open s) t alone = absurd (false≢true alone)
 single_mixed (Close s) t alone = absurd (false≢true alone)
 
-group_mixed : (kind : GroupKind) (owns : List Inner) (texts : List (List ℕ)) → no_empty_cell false (own_items (is_one kind) owns) ≡ true → AreSpelled owns texts → AreMixed texts (item_owners (group_of kind owns))
-group_mixed kind owns texts full spelled = inside_mixed (own_items (is_one kind) owns) texts full (items_spelled (is_one kind) owns texts spelled)
+group_mixed : (kind : GroupKind) (owns : List Inner) (texts : List (List ℕ)) → no_empty_cell false (with_comma_nodes (is_one kind) owns) ≡ true → AreSpelled owns texts → AreMixed texts (item_owners (group_of kind owns))
+group_mixed kind owns texts full spelled = inside_mixed (with_comma_nodes (is_one kind) owns) texts full (items_spelled (is_one kind) owns texts spelled)
 
 -- brackets are no comments
 bracket_comments : (s : Shape) (opening : Placed) (inner : List Placed) (closing : Placed) → mark_of opening ≡ Open s → mark_of closing ≡ Close s → comments_among (opening ∷ inner ++ closing ∷ []) ≡ comments_among inner
@@ -369,7 +369,7 @@ mutual
       (comments_among (elem_tokens x), comments_among (elems_tokens xs), comments_append (elem_tokens x) (elems_tokens xs), elem_mixed x b well.0, elems_spelled xs (preceding b (elem_own b x)) well.1)
 
 -- At depth 0 there is one segment, and the end comments stand above it.
-no_commas : (os : List Inner) → has_comma (own_items true os) ≡ false
+no_commas : (os : List Inner) → has_comma (with_comma_nodes true os) ≡ false
 no_commas [] = refl
 no_commas (node line x ∷ os) = no_commas os
 no_commas (comma t ∷ os) = no_commas os
@@ -403,7 +403,7 @@ marked_owners false xs = refl
 
 segment_mixed : (owns : List Inner) (texts : List (List ℕ)) → AreSpelled owns texts → AreMixed texts (segment_owners (segment_of owns))
 segment_mixed owns texts spelled =
-    let os = own_items true owns in
+    let os = with_comma_nodes true owns in
     let e = inside_ends os texts (nodes_alone false owns) (items_spelled true owns texts spelled) in
     let w = e.last in
     let one = alone_mixed w.segs w.before w.nodes w.suffix w.after w.last w.trailing texts (e.alone (no_commas owns) refl) e.fits.nodes e.holds in

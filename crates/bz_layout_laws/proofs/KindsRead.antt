@@ -9,7 +9,7 @@ use Rattle.bz_tree.specs.declared.tree.kinds.Mark.{Mark}
 use Rattle.bz_tree.specs.declared.tree.kinds.Mark.TheVariants.{Open, Close, Comma, Comment, Newline, Plain}
 use Rattle.bz_tree.specs.declared.tree.kinds.Preceding.{Preceding}
 use Rattle.bz_tree.specs.declared.tree.kinds.Preceding.TheVariants.{Other}
-use Rattle.bz_tree.specs.Brackets.{own_items, preceding, is_for_item, is_paren, end_line}
+use Rattle.bz_tree.specs.Brackets.{with_comma_nodes, preceding, is_for_item, is_paren, end_line}
 use Rattle.bz_tree.specs.Elements.{has_for}
 use Rattle.bz_tree.specs.Elements.{group_of}
 use Rattle.bz_tree.specs.Elements.{Elem, single, bracket, Elems, no_elems, elem, own_of, elems_own, is_single, IsWell, AreWell}
@@ -98,14 +98,14 @@ segments_for cell (next ∷ cells) h = by (nodes_in cell) refl
     by [] e = absurd (false≢true (sym (ap is_filled (h (ap is_filled e)))))
     by (x ∷ xs) e = refl
 
-pub inside_for : (one : Bool) (xs : Elems) → AreWell Other xs → no_empty_cell false (own_items one (elems_own Other xs)) ≡ true → have_for (segs_of (inside (own_items one (elems_own Other xs))).segs) ≡ has_for (elems_own Other xs)
+pub inside_for : (one : Bool) (xs : Elems) → AreWell Other xs → no_empty_cell false (with_comma_nodes one (elems_own Other xs)) ≡ true → have_for (segs_of (inside (with_comma_nodes one (elems_own Other xs))).segs) ≡ has_for (elems_own Other xs)
 inside_for one xs well filled =
-    let os = own_items one (elems_own Other xs) in
+    let os = with_comma_nodes one (elems_own Other xs) in
     let es = entries_of no_token os in
     segments_for (first_cell es) (other_cells es) (first_filled no_token os filled) ∙ sym (first_for es) ∙ sym (owns_have_for one no_token Other xs well)
 
 -- an index or a comprehension has one segment, and so has `(x,)`
-pub no_cells : (at : Last) (os : List Inner) → other_cells (entries_of at (own_items true os)) ≡ []
+pub no_cells : (at : Last) (os : List Inner) → other_cells (entries_of at (with_comma_nodes true os)) ≡ []
 no_cells at [] = refl
 no_cells at (node line x ∷ os) = no_cells (end_of_node line) os
 no_cells at (comma t ∷ os) = no_cells (end_of_node t.line) os
@@ -118,10 +118,10 @@ one_cell s = by (is_filled s.nodes)
     by true = refl
     by false = refl
 
-at_most_one : (one : Bool) (os : List Inner) → one ≡ true → nat_le (count (segs_of (inside (own_items one os)).segs)) 1 ≡ true
+at_most_one : (one : Bool) (os : List Inner) → one ≡ true → nat_le (count (segs_of (inside (with_comma_nodes one os)).segs)) 1 ≡ true
 at_most_one false os h = absurd (false≢true h)
 at_most_one true os h =
-    let es = entries_of no_token (own_items true os) in
+    let es = entries_of no_token (with_comma_nodes true os) in
     ap (λ cells. nat_le (count (segs_of (segments_from (first_cell es) cells))) 1) (no_cells no_token os) ∙ one_cell (cell_segment (first_cell es) [] [])
 
 counted : (ss : List Segment) → count (segs_of ss) ≡ length ss
@@ -132,9 +132,9 @@ paren_kind : (kind : GroupKind) → is_paren kind ≡ true → kind ≡ Paren
 paren_kind Paren h = refl
 paren_kind _ h = absurd (false≢true h)
 
-shape_read : (kind : GroupKind) (os : List Inner) → HasShape kind (segs_of (inside (own_items (is_one kind) os)).segs) (is_paren kind && (length (inside (own_items (is_one kind) os)).segs == 1) && (inside (own_items (is_one kind) os)).trailing)
+shape_read : (kind : GroupKind) (os : List Inner) → HasShape kind (segs_of (inside (with_comma_nodes (is_one kind) os)).segs) (is_paren kind && (length (inside (with_comma_nodes (is_one kind) os)).segs == 1) && (inside (with_comma_nodes (is_one kind) os)).trailing)
 shape_read kind os =
-    let i = inside (own_items (is_one kind) os) in
+    let i = inside (with_comma_nodes (is_one kind) os) in
     record {
       one = at_most_one (is_one kind) os;
       comma = λ e. (let front = and_parts (is_paren kind) (length i.segs == 1) (and_parts (is_paren kind && (length i.segs == 1)) i.trailing e).0 in
@@ -142,9 +142,9 @@ shape_read kind os =
     }
 
 -- one more token
-more_along : (one : Bool) (at : Last) (m : Mark) (t : Placed) (b : Preceding) (owns : List Inner) → mark_of t ≡ m → is_single m ≡ true → ((last : Last) → Along one (preceding b (own_of m t)) (entries_of last (own_items one owns)))
-    → Along one b (entries_of at (own_items one (own_of m t ∷ owns)))
-more_along true at Comma t b owns e ok rest = (λ is. refl, tt, subst (λ p. Along true p (entries_of (end_of_node t.line) (own_items true owns))) (sym (comma_leaf t.kind t.text (ap is_comma_mark e)).0) (rest (end_of_node t.line)))
+more_along : (one : Bool) (at : Last) (m : Mark) (t : Placed) (b : Preceding) (owns : List Inner) → mark_of t ≡ m → is_single m ≡ true → ((last : Last) → Along one (preceding b (own_of m t)) (entries_of last (with_comma_nodes one owns)))
+    → Along one b (entries_of at (with_comma_nodes one (own_of m t ∷ owns)))
+more_along true at Comma t b owns e ok rest = (λ is. refl, tt, subst (λ p. Along true p (entries_of (end_of_node t.line) (with_comma_nodes true owns))) (sym (comma_leaf t.kind t.text (ap is_comma_mark e)).0) (rest (end_of_node t.line)))
 more_along false at Comma t b owns e ok rest = rest (end_of_comma t.line)
 more_along true at Comment t b owns e ok rest = rest no_token
 more_along false at Comment t b owns e ok rest = rest no_token
@@ -154,32 +154,32 @@ more_along one at (Open shape) t b owns e ok rest = absurd (false≢true ok)
 more_along one at (Close shape) t b owns e ok rest = absurd (false≢true ok)
 more_along one at Newline t b owns e ok rest = absurd (false≢true ok)
 
-bracket_kind : (b : Preceding) (shape : Shape) (opening : Placed) (inner : Elems) (closing : Placed) → IsWell b (bracket shape opening inner closing) → ((one : Bool) → Along one Other (entries_of no_token (own_items one (elems_own Other inner))))
+bracket_kind : (b : Preceding) (shape : Shape) (opening : Placed) (inner : Elems) (closing : Placed) → IsWell b (bracket shape opening inner closing) → ((one : Bool) → Along one Other (entries_of no_token (with_comma_nodes one (elems_own Other inner))))
     → HasKind b (group_of (group_kind shape b (has_for (elems_own Other inner))) (elems_own Other inner))
 bracket_kind b shape opening inner closing h kinds =
     let owns = elems_own Other inner in
     let kind = group_kind shape b (has_for owns) in
-    (shape, ap (group_kind shape b) (sym (inside_for (is_one kind) inner h.2 h.3)), shape_read kind owns, inside_kinds (is_one kind) (entries_of no_token (own_items (is_one kind) owns)) (kinds (is_one kind)))
+    (shape, ap (group_kind shape b) (sym (inside_for (is_one kind) inner h.2 h.3)), shape_read kind owns, inside_kinds (is_one kind) (entries_of no_token (with_comma_nodes (is_one kind) owns)) (kinds (is_one kind)))
 
 -- what stands in one bracket
 abbrev inner_entries : Bool → Elem → List Entry
 inner_entries one (single t) = []
-inner_entries one (bracket shape opening inner closing) = entries_of no_token (own_items one (elems_own Other inner))
+inner_entries one (bracket shape opening inner closing) = entries_of no_token (with_comma_nodes one (elems_own Other inner))
 
 mutual
   inner_along : (b : Preceding) (x : Elem) → IsWell b x → (one : Bool) → Along one Other (inner_entries one x)
   inner_along b (single t) h one = tt
   inner_along b (bracket shape opening inner closing) h one = along one no_token Other inner h.2
 
-  pub along : (one : Bool) (at : Last) (b : Preceding) (xs : Elems) → AreWell b xs → Along one b (entries_of at (own_items one (elems_own b xs)))
+  pub along : (one : Bool) (at : Last) (b : Preceding) (xs : Elems) → AreWell b xs → Along one b (entries_of at (with_comma_nodes one (elems_own b xs)))
   along one at b no_elems h = tt
   along one at b (elem (single t) xs) h = more_along one at (mark_of t) t b (elems_own (preceding b (own_of (mark_of t) t)) xs) refl h.0 (λ last. along one last (preceding b (own_of (mark_of t) t)) xs h.1)
   along true at b (elem (bracket shape opening inner closing) xs) h = (λ is. refl, bracket_kind b shape opening inner closing h.0 (inner_along b (bracket shape opening inner closing) h.0), along true (end_of_node closing.line) _ xs h.1)
   along false at b (elem (bracket shape opening inner closing) xs) h = (λ is. absurd (false≢true is), bracket_kind b shape opening inner closing h.0 (inner_along b (bracket shape opening inner closing) h.0), along false (end_of_node closing.line) _ xs h.1)
 
 -- the nodes that stand outside brackets, before the call of a rule is told
-pub outside_kinds : (xs : Elems) (i : Inside) → i ≡ inside (own_items true (elems_own Other xs)) → AreWell Other xs → HaveKinds true Other (items_of (one_segment i.segs i.end).nodes)
-outside_kinds xs i e h = first i.segs (subst (λ j. SegsHaveKinds true (segs_of j.segs)) (sym e) (inside_kinds true (entries_of no_token (own_items true (elems_own Other xs))) (along true no_token Other xs h)))
+pub outside_kinds : (xs : Elems) (i : Inside) → i ≡ inside (with_comma_nodes true (elems_own Other xs)) → AreWell Other xs → HaveKinds true Other (items_of (one_segment i.segs i.end).nodes)
+outside_kinds xs i e h = first i.segs (subst (λ j. SegsHaveKinds true (segs_of j.segs)) (sym e) (inside_kinds true (entries_of no_token (with_comma_nodes true (elems_own Other xs))) (along true no_token Other xs h)))
   where
     first : (ss : List Segment) → SegsHaveKinds true (segs_of ss) → HaveKinds true Other (items_of (one_segment ss i.end).nodes)
     first [] h = tt

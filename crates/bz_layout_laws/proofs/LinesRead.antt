@@ -6,7 +6,7 @@ use Rattle.bz_token.specs.Places.{Placed}
 use Rattle.bz_tree.specs.declared.tree.kinds.Mark.{Mark}
 use Rattle.bz_tree.specs.declared.tree.kinds.Mark.TheVariants.{Open, Close, Comma, Comment, Newline, Plain}
 use Rattle.bz_tree.specs.declared.tree.kinds.Preceding.TheVariants.{Other}
-use Rattle.bz_tree.specs.Brackets.{own_items, as_node}
+use Rattle.bz_tree.specs.Brackets.{with_comma_nodes, as_node}
 use Rattle.bz_tree.specs.Elements.{single, bracket, Elems, no_elems, elem, elems_tokens, elems_own, own_of}
 use Rattle.bz_tree.specs.Kinds.{mark_of}
 use Rattle.bz_tree.specs.Owners.{Inner}
@@ -85,23 +85,23 @@ token_starts Comment t os = refl
 token_starts Newline t os = refl
 token_starts Plain t os = refl
 
-some_starts : (xs : Elems) → IsSome (first_of (elems_tokens xs)) → starts (first_cell (entries_of no_token (own_items true (elems_own Other xs)))) ≡ true
+some_starts : (xs : Elems) → IsSome (first_of (elems_tokens xs)) → starts (first_cell (entries_of no_token (with_comma_nodes true (elems_own Other xs)))) ≡ true
 some_starts no_elems some = absurd (false≢true some)
 some_starts (elem (single t) xs) some = token_starts (mark_of t) t _
 some_starts (elem (bracket shape opening inner closing) xs) some = refl
 
-has_lines : (xs : Elems) → IsSome (first_of (elems_tokens xs)) → let i = inside (own_items true (elems_own Other xs)) in ((one_segment i.segs i.end).nodes ≡ [] → is_filled (one_segment i.segs i.end).before ≡ true)
+has_lines : (xs : Elems) → IsSome (first_of (elems_tokens xs)) → let i = inside (with_comma_nodes true (elems_own Other xs)) in ((one_segment i.segs i.end).nodes ≡ [] → is_filled (one_segment i.segs i.end).before ≡ true)
 has_lines xs some =
     let os = elems_own Other xs in
-    let es = entries_of no_token (own_items true os) in
+    let es = entries_of no_token (with_comma_nodes true os) in
     subst (λ cells. (one_segment (segments_from (first_cell es) cells) (end_from (first_cell es) cells)).nodes ≡ [] → is_filled (one_segment (segments_from (first_cell es) cells) (end_from (first_cell es) cells)).before ≡ true) (sym (no_cells no_token os)) (cell_lines (first_cell es) (some_starts xs some))
 
 pub read_parsed : (tokens : List Placed) (t : Statement) → IsStatementOf tokens t → IsSome (first_seen tokens) → IsParsed t
 read_parsed tokens t of some =
     let is = tree_of tokens t of in
-    let i = inside (own_items true (elems_own Other is.elems)) in
+    let i = inside (with_comma_nodes true (elems_own Other is.elems)) in
     let s = one_segment i.segs i.end in
-    let es = entries_of no_token (own_items true (elems_own Other is.elems)) in
+    let es = entries_of no_token (with_comma_nodes true (elems_own Other is.elems)) in
     let kinds = read_kinds tokens t of in
     let gone : t.nodes ≡ [] → s.nodes ≡ [] = λ none. none_before s.nodes (sym (ap (λ (u : Statement). u.nodes) is.is) ∙ none) in
     record {

@@ -13,7 +13,7 @@ use Rattle.bz_tree.specs.declared.grammar.role.Role.TheVariants.{Name, Number, V
 use Rattle.bz_tree.specs.Grammar as Table
 use Rattle.bz_tree.proofs.Recognizer.FromTable.{statement_produced}
 use Rattle.bz_tree.specs.private.Productions.{leaf_role, token_role, is_prefix, join, IsTest, plain, conditional, IsChain, single, binary, IsTerm, primary, unary, IsPrimary, number, operand, IsOperand, ident, text as string_operand, paren, list, dict, list_comp, dict_comp, IsExpr, last_test, test, IsLoad, load, IsStatement, comments, load_statement, expression, assignment}
-use Rattle.bz_tree.specs.Statement.{is_load_word}
+use Rattle.bz_tree.specs.Kinds.{is_load_word}
 use Rattle.bz_tree.specs.Tree.{Item, leaf, group, Items, no_items, item}
 use Rattle.bz_layout_laws.specs.Legible.{begins_block}
 use Rattle.bz_layout_laws.specs.TextsOfKinds.{HasText, HaveTexts}

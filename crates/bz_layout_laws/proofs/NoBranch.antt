@@ -9,7 +9,7 @@ use Rattle.bz_token.proofs.Classes.{same_bytes}
 use Rattle.bz_tree.specs.Grammar as Table
 use Rattle.bz_tree.proofs.Recognizer.FromTable.{statement_produced}
 use Rattle.bz_tree.specs.private.Productions.{IsLoad, load, IsStatement, comments, load_statement, expression, assignment}
-use Rattle.bz_tree.specs.Statement.{is_load_word}
+use Rattle.bz_tree.specs.Kinds.{is_load_word}
 use Rattle.bz_tree.specs.Tree.{Item, leaf, group, Items, no_items, item}
 use Rattle.bz_layout_laws.specs.TextsOfKinds.{HaveTexts}
 use Rattle.bz_layout_laws.proofs.BranchWords.{is_branch}

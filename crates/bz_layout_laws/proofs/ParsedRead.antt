@@ -11,7 +11,7 @@ use Rattle.bz_tree.specs.declared.tree.kinds.Shape.{Shape}
 use Rattle.bz_tree.specs.declared.tree.kinds.Shape.TheVariants.{Round, Square, Curly}
 use Rattle.bz_tree.specs.declared.tree.kinds.Preceding.{Preceding}
 use Rattle.bz_tree.specs.declared.tree.kinds.Preceding.TheVariants.{Operand, LoadWord, Other}
-use Rattle.bz_tree.specs.Brackets.{own_items}
+use Rattle.bz_tree.specs.Brackets.{with_comma_nodes}
 use Rattle.bz_tree.specs.Elements.{elems_own}
 use Rattle.bz_tree.specs.Kinds.{group_kind, after_item}
 use Rattle.bz_tree.specs.Cells.{inside}
@@ -74,7 +74,7 @@ plain_nodes xs = by (is_rule xs) refl
 pub read_kinds : (tokens : List Placed) (t : Statement) → IsStatementOf tokens t → HaveKinds true Other (items_of (plain_calls t.nodes)) × (t.nodes ≡ (if is_rule (plain_calls t.nodes) then rule_call (plain_calls t.nodes) else plain_calls t.nodes)) × (t.class ≡ class_of t.nodes)
 read_kinds tokens t of =
     let is = tree_of tokens t of in
-    let i = inside (own_items true (elems_own Other is.elems)) in
+    let i = inside (with_comma_nodes true (elems_own Other is.elems)) in
     let xs = (one_segment i.segs i.end).nodes in
     let kinds : HaveKinds true Other (items_of xs) = outside_kinds is.elems i refl is.well in
     let nodes : t.nodes ≡ rule_nodes xs = ap (λ (s : Statement). s.nodes) is.is in

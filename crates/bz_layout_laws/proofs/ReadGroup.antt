@@ -10,7 +10,7 @@ use Rattle.bz_tree.specs.declared.tree.kinds.Shape.TheVariants.{Round, Square, C
 use Rattle.bz_tree.specs.declared.tree.kinds.Mark.TheVariants.{Open, Close}
 use Rattle.bz_tree.specs.declared.tree.kinds.Preceding.{Preceding}
 use Rattle.bz_tree.specs.declared.tree.kinds.Preceding.TheVariants.{Operand, LoadWord, Other}
-use Rattle.bz_tree.specs.Brackets.{is_paren, own_items, end_line}
+use Rattle.bz_tree.specs.Brackets.{is_paren, with_comma_nodes, end_line}
 use Rattle.bz_tree.specs.Elements.{has_for}
 use Rattle.bz_tree.specs.Elements.{group_of}
 use Rattle.bz_tree.specs.Elements.{bracket, elems_tokens, elems_own}
@@ -86,7 +86,7 @@ read_group one b kind ss one_comma end trailing w ls es tail shape kind_is nodes
       let back = group_same kind owns trailing ss one_comma end nodes comma_is r.entries in
       subst (λ x. Read one b at ts (a_node x ∷ es) tail) (ap (λ k. group_of k owns) found ∙ back.0)
       (add_node one b at (bracket shape open_at r.elems close_at) g.line (group_of (group_kind shape b (has_for owns)) owns) es tail ts g.others
-      (ap (λ k. operator_mark (opening k)) kind_is ∙ opens shape b (have_for ss), ap (λ k. operator_mark (closing k)) kind_is ∙ closes shape b (have_for ss), r.well, ap (λ k. no_empty_cell false (own_items (is_one k) owns)) found ∙ back.1)
+      (ap (λ k. operator_mark (opening k)) kind_is ∙ opens shape b (have_for ss), ap (λ k. operator_mark (closing k)) kind_is ∙ closes shape b (have_for ss), r.well, ap (λ k. no_empty_cell false (with_comma_nodes (is_one k) owns)) found ∙ back.1)
       (own_node one g.line (group_of (group_kind shape b (has_for owns)) owns))
       (f.are ∙ ap (λ us. open_at ∷ us) (r.tokens ∙ ap (λ us. elems_tokens r.elems ++ us) g.are) ∙ closed_up open_at close_at (elems_tokens r.elems) g.others)
       n);

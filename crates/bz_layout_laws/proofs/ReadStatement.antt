@@ -9,14 +9,14 @@ use Rattle.bz_tree.specs.declared.tree.GroupKind.{GroupKind}
 use Rattle.bz_tree.specs.declared.tree.GroupKind.TheVariants.{Call, RuleCall}
 use Rattle.bz_tree.specs.declared.tree.Class.{Class}
 use Rattle.bz_tree.specs.declared.tree.Class.TheVariants.{Load as LoadClass, Assign, Rule, Other as OtherClass, Block}
-use Rattle.bz_tree.specs.Kinds.{group_kind, after_item}
+use Rattle.bz_tree.specs.Kinds.{group_kind, after_item, is_load_word}
 use Rattle.bz_tree.specs.declared.tree.kinds.Preceding.{Preceding}
 use Rattle.bz_tree.specs.declared.tree.kinds.Preceding.TheVariants.{Other}
-use Rattle.bz_tree.specs.Brackets.{own_items, without_lines}
+use Rattle.bz_tree.specs.Brackets.{with_comma_nodes, without_lines}
 use Rattle.bz_tree.specs.Elements.{Elems, elems_tokens, elems_own, AreWell}
 use Rattle.bz_tree.specs.Owners.{Inner}
 use Rattle.bz_tree.specs.Cells.{Entry, a_node, no_token, entries_of}
-use Rattle.bz_tree.specs.Statement.{class_of, is_kept, is_load_word, statement_with, IsStatementOf, is_assign}
+use Rattle.bz_tree.specs.Statement.{class_of, is_kept, statement_with, IsStatementOf, is_assign}
 use Rattle.bz_tree.specs.Elements.{segment_of}
 use Rattle.bz_tree.specs.Tree.{Item, leaf, group, Segment, Statement, items_of, is_rule}
 use Rattle.bz_layout_laws.specs.Written.{own_lines, suffix_entry, written_entries}
@@ -100,7 +100,7 @@ finish c s tokens parsed tree =
 
 -- tokens whose entries are those of a statement
 tree_of : (c : Choice) (s : Statement) (tokens : List Placed) (ls : List Lexeme) (es : List Entry) → lexemes_from None (without_lines tokens) ≡ ls → Reads true Other ls es []
-    → ((owns : List Inner) → entries_of no_token (own_items true owns) ≡ es → segment_of owns ≡ own_segment (spelled_by c s)) → Tree c s tokens
+    → ((owns : List Inner) → entries_of no_token (with_comma_nodes true owns) ≡ es → segment_of owns ≡ own_segment (spelled_by c s)) → Tree c s tokens
 tree_of c s tokens ls es lexemes reads back =
     let r = reads.each no_token None (without_lines tokens) agree_none (lexemes ∙ sym (append-nil ls)) in
     record {

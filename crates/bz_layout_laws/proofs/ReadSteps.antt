@@ -13,7 +13,7 @@ use Rattle.bz_tree.specs.declared.tree.kinds.Mark.{Mark}
 use Rattle.bz_tree.specs.declared.tree.kinds.Mark.TheVariants.{Open, Close, Comma, Comment, Newline as NewlineMark, Plain}
 use Rattle.bz_tree.specs.declared.tree.kinds.Preceding.{Preceding}
 use Rattle.bz_tree.specs.declared.tree.kinds.Preceding.TheVariants.{Other}
-use Rattle.bz_tree.specs.Brackets.{leaf_of, own_items, preceding, end_line}
+use Rattle.bz_tree.specs.Brackets.{leaf_of, with_comma_nodes, preceding, end_line}
 use Rattle.bz_tree.specs.Elements.{Elem, single, Elems, no_elems, elem, elem_tokens, elems_tokens, own_of, elem_own, elems_own, is_single, IsWell, AreWell}
 use Rattle.bz_tree.specs.Kinds.{kind_mark, operator_mark, mark_of}
 use Rattle.bz_tree.specs.private.KindSteps.{own_item, kind_after}
@@ -36,7 +36,7 @@ pub record Read (one : Bool) (b : Preceding) (at : Last) (ts : List Placed) (es 
   pub tokens : ts ≡ elems_tokens elems ++ after
   pub rest : lexemes_from last after ≡ tail
   pub well : AreWell b elems
-  pub entries : entries_of at (own_items one (elems_own b elems)) ≡ es
+  pub entries : entries_of at (with_comma_nodes one (elems_own b elems)) ≡ es
 
 -- whatever tokens have these lexemes
 pub record Reads (one : Bool) (b : Preceding) (ls : List Lexeme) (es : List Entry) (tail : List Lexeme) : Type 0 where
@@ -81,7 +81,7 @@ read_comment one b beside text ls es tail next = record {
         rest = r.rest;
         well = (refl, r.well);
         entries =
-            ap (λ o. entries_of at (o ∷ own_items one (elems_own b r.elems))) (own_comment one f.line text)
+            ap (λ o. entries_of at (o ∷ with_comma_nodes one (elems_own b r.elems))) (own_comment one f.line text)
             ∙ (λ i. a_comment ((agree.same f.line ∙ f.beside) i) text ∷ r.entries i);
       };
 }
@@ -116,7 +116,7 @@ add_node one b at x line y es tail ts others well own are r = record {
   rest = r.rest;
   well = (well, r.well);
   entries =
-      ap (λ o. entries_of at (o ∷ own_items one (elems_own (preceding b (elem_own b x)) r.elems))) own
+      ap (λ o. entries_of at (o ∷ with_comma_nodes one (elems_own (preceding b (elem_own b x)) r.elems))) own
       ∙ ap (λ es. a_node y ∷ es) r.entries;
 }
 

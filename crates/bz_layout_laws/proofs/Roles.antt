@@ -5,13 +5,13 @@ use Rattle.std.specs.Str.{bytes_eq}
 use Rattle.std.proofs.lemmas.Bool.{cases_Bool, or_cases, false≢true, eqb-true}
 use Rattle.bz_token.specs.declared.token.Kind.{Kind}
 use Rattle.bz_token.specs.declared.token.Kind.TheVariants.{Identifier, Keyword, Integer, String, Operator as OperatorToken}
-use Rattle.bz_token.specs.Lexical.{is_text, is_one_of}
+use Rattle.bz_token.specs.Lexical.{is_text}
 use Rattle.bz_token.proofs.Classes.{mark, class_of, can_start, same_bytes, text_class}
 use Rattle.bz_tree.specs.declared.tree.GroupKind.{GroupKind}
 use Rattle.bz_tree.specs.declared.grammar.role.Role.{Role}
 use Rattle.bz_tree.specs.declared.grammar.role.Role.TheVariants.{Name, Number, Value, Dot, Comma, Colon, Equals, Augmented, If, Else, For, In, Not, Tilde, Sum, Star, Stars, Operator, Stray}
 use Rattle.bz_tree.specs.private.Productions.{is_infix, operator_role, leaf_role, token_role}
-use Rattle.bz_tree.specs.Statement.{is_load_word}
+use Rattle.bz_tree.specs.Kinds.{is_load_word}
 use Rattle.bz_tree.specs.private.KindSteps.{is_augmented}
 use Rattle.bz_tree.specs.Tree.{Item, leaf, group}
 use Rattle.bz_layout.specs.declared.spacing.Edge.{Edge}
@@ -20,7 +20,7 @@ use Rattle.bz_layout_laws.specs.Following.{MayStandIn}
 use Rattle.bz_layout_laws.specs.Legible.{is_later, begins_later}
 use Rattle.bz_layout_laws.specs.TextsOfKinds.{HasText}
 use Rattle.bz_layout_laws.proofs.NoBrackets.{is_operator_kind, mark_starts}
-use Rattle.bz_token.specs.Common.{begins}
+use Rattle.bz_token.specs.Common.{begins, is_one_of}
 
 -- tokens that begin with no byte that stands second or third in an operator
 abbrev pub stands_apart : Role → Bool

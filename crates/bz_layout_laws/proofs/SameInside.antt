@@ -2,7 +2,7 @@
 use Rattle.std.proofs.Common.{◌≡◌, ℕ, suc, ◌==◌, ◌&&◌, List, length, Bool, true, false, refl, ap, ◌∙◌}
 use Rattle.std.proofs.lemmas.Bool.{false≢true}
 use Rattle.bz_tree.specs.declared.tree.GroupKind.{GroupKind}
-use Rattle.bz_tree.specs.Brackets.{is_paren, own_items}
+use Rattle.bz_tree.specs.Brackets.{is_paren, with_comma_nodes}
 use Rattle.bz_tree.specs.Elements.{group_of}
 use Rattle.bz_tree.specs.Kinds.{is_one}
 use Rattle.bz_tree.specs.Owners.{Inner}
@@ -41,8 +41,8 @@ have_nodes c kind (seg before nodes suffix ss) h = (filled (inside c) nodes h.1,
 
 pub group_same : (kind : GroupKind) (owns : List Inner) (trailing : Bool) (ss : Segs) (one_comma : Bool) (end : List (List ℕ)) → HaveNodes (segments ss)
     → (is_paren kind && (length (segments ss) == 1) && (trailing && is_filled (segments ss))) ≡ one_comma
-    → entries_of no_token (own_items (is_one kind) owns) ≡ written_entries trailing (segments ss) end
-    → (group_of kind owns ≡ group kind ss one_comma end) × (no_empty_cell false (own_items (is_one kind) owns) ≡ true)
+    → entries_of no_token (with_comma_nodes (is_one kind) owns) ≡ written_entries trailing (segments ss) end
+    → (group_of kind owns ≡ group kind ss one_comma end) × (no_empty_cell false (with_comma_nodes (is_one kind) owns) ≡ true)
 group_same kind owns trailing ss one_comma end nodes comma_is e =
     let back = group_back kind owns trailing (segments ss) end nodes e in
     (back.0 ∙ (λ i. group kind (segs_same ss i) (comma_is i) end), back.1)

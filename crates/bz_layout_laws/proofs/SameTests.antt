@@ -4,7 +4,8 @@ use Rattle.std.specs.Prelude.{if◌then◌else◌}
 use Rattle.std.specs.Str.{bytes_eq}
 use Rattle.bz_token.specs.declared.token.Kind.TheVariants.{Identifier, Operator, String}
 use Rattle.bz_tree.specs.declared.tree.Class.TheVariants.{Load, Assign, Rule, Other, Block}
-use Rattle.bz_tree.specs.Statement.{is_assign, is_load_word, is_kept, class_of}
+use Rattle.bz_tree.specs.Statement.{is_assign, is_kept, class_of}
+use Rattle.bz_tree.specs.Kinds.{is_load_word}
 use Rattle.bz_tree.specs.Elements.{rule_call}
 use Rattle.bz_tree.specs.Tree.{Item, leaf, group, is_rule, is_rule_after}
 use Rattle.bz_layout_laws.specs.Spelled.{spelled}

@@ -5,7 +5,8 @@ use Rattle.std.specs.List.{list_all}
 use Rattle.std.proofs.lemmas.Bool.{cases_Bool, and_parts, eqb-false, ne_eqb}
 use Rattle.bz_token.specs.declared.token.Kind.{Kind}
 use Rattle.bz_token.specs.declared.token.Kind.TheVariants.{String}
-use Rattle.bz_label.specs.Values.{value_of, value_at}
+use Rattle.bz_label.specs.Values.{value_of}
+use Rattle.bz_label.specs.Literals.{value_at}
 use Rattle.bz_label.specs.private.ValueSteps.{opening, opened_value, first_len, inner_value, value_in}
 use Rattle.bz_label.proofs.ValueForms.{opened_other}
 use Rattle.bz_label.proofs.Literals.{step}

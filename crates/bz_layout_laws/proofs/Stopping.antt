@@ -6,7 +6,7 @@ use Rattle.std.proofs.lemmas.Bool.{cases_Bool, and_parts, or_cases, not-true, fa
 use Rattle.bz_token.specs.declared.token.Kind.{Kind}
 use Rattle.bz_token.specs.declared.token.Kind.TheVariants.{String, Operator as OperatorToken, Newline, Comment, Kept}
 use Rattle.bz_token.specs.Strings.{is_quote}
-use Rattle.bz_token.specs.Lexical.{is_newline, is_text, is_word_byte}
+use Rattle.bz_token.specs.Lexical.{is_text, is_word_byte}
 use Rattle.bz_token.specs.Ends.{is_comment_kind, stops_at, ends}
 use Rattle.bz_token.proofs.Classes.{same_bytes, empty_no_text}
 use Rattle.bz_token.proofs.Stops.{operator_stops, plain_stops}
@@ -25,7 +25,7 @@ use Rattle.bz_layout_laws.specs.FreeLayout.{Choice, own, free, text_of, item_by}
 use Rattle.bz_layout_laws.specs.Legible.{is_later, may_follow, IsLegibleItem}
 use Rattle.bz_layout_laws.proofs.Respelled.{respelled_text}
 use Rattle.bz_layout_laws.proofs.TextOf.{text_is}
-use Rattle.bz_token.specs.Common.{begins}
+use Rattle.bz_token.specs.Common.{begins, is_newline}
 
 -- the text of pieces and what follows it
 abbrev pub before : List Piece → List ℕ → List ℕ

@@ -16,7 +16,7 @@ use Rattle.bz_tree.specs.declared.tree.kinds.Mark.TheVariants.{Open, Close, Comm
 use Rattle.bz_tree.specs.declared.tree.kinds.Preceding.{Preceding}
 use Rattle.bz_tree.specs.declared.tree.kinds.Preceding.TheVariants.{Other}
 use Rattle.bz_tree.specs.declared.tree.kinds.Shape.TheVariants.{Round, Square, Curly}
-use Rattle.bz_tree.specs.Brackets.{own_items, preceding, is_line, without_lines, end_line}
+use Rattle.bz_tree.specs.Brackets.{with_comma_nodes, preceding, is_line, without_lines, end_line}
 use Rattle.bz_tree.specs.Elements.{has_for}
 use Rattle.bz_tree.specs.Elements.{Elem, single, bracket, Elems, no_elems, elem, elem_tokens, elems_tokens, own_of, elems_own, is_single, AreWell}
 use Rattle.bz_tree.specs.Comments.{beside}
@@ -97,8 +97,8 @@ comment_text Operator text e is = absurd (false≢true (sym (operator_comment te
 comment_text _ text e is = absurd (false≢true (ap is_comment_mark e))
 
 -- one more token
-more_texts : (one : Bool) (at : Last) (m : Mark) (t : Placed) (owns : List Inner) → mark_of t ≡ m → is_single m ≡ true → is_token_text t ≡ true → ((last : Last) → Each HasText is_comment (entries_of last (own_items one owns)))
-    → Each HasText is_comment (entries_of at (own_items one (own_of m t ∷ owns)))
+more_texts : (one : Bool) (at : Last) (m : Mark) (t : Placed) (owns : List Inner) → mark_of t ≡ m → is_single m ≡ true → is_token_text t ≡ true → ((last : Last) → Each HasText is_comment (entries_of last (with_comma_nodes one owns)))
+    → Each HasText is_comment (entries_of at (with_comma_nodes one (own_of m t ∷ owns)))
 more_texts true at Comma t owns e ok is rest = ((is, ap is_leaf_mark e), rest (end_of_node t.line))
 more_texts false at Comma t owns e ok is rest = rest (end_of_comma t.line)
 more_texts true at Comment t owns e ok is rest = (comment_text t.kind t.text e is, rest no_token)
@@ -117,17 +117,17 @@ segs_texts : (ss : Segs) → EachSegment HasText is_comment ss → SegsHaveTexts
 segs_texts no_segs h = tt
 segs_texts (seg before nodes suffix ss) h = (h.0, h.1, nodes_texts nodes h.2, h.3, segs_texts ss h.4)
 
-texts_along : (one : Bool) (at : Last) (b : Preceding) (xs : Elems) → AreWell b xs → ElemsTexts is_token_text xs → Each HasText is_comment (entries_of at (own_items one (elems_own b xs)))
+texts_along : (one : Bool) (at : Last) (b : Preceding) (xs : Elems) → AreWell b xs → ElemsTexts is_token_text xs → Each HasText is_comment (entries_of at (with_comma_nodes one (elems_own b xs)))
 texts_along one at b no_elems h texts = tt
 texts_along one at b (elem (single t) xs) h texts =
     more_texts one at (mark_of t) t (elems_own (preceding b (own_of (mark_of t) t)) xs) refl h.0 texts.0 (λ last. texts_along one last (preceding b (own_of (mark_of t) t)) xs h.1 texts.1)
 texts_along true at b (elem (bracket shape opening inner closing) xs) h texts =
     let one = is_one (group_kind shape b (has_for (elems_own Other inner))) in
-    let i = inside_each HasText is_comment (entries_of no_token (own_items one (elems_own Other inner))) (texts_along one no_token Other inner h.0.2 texts.0) in
+    let i = inside_each HasText is_comment (entries_of no_token (with_comma_nodes one (elems_own Other inner))) (texts_along one no_token Other inner h.0.2 texts.0) in
     ((segs_texts _ i.0, i.1), texts_along true (end_of_node closing.line) _ xs h.1 texts.1)
 texts_along false at b (elem (bracket shape opening inner closing) xs) h texts =
     let one = is_one (group_kind shape b (has_for (elems_own Other inner))) in
-    let i = inside_each HasText is_comment (entries_of no_token (own_items one (elems_own Other inner))) (texts_along one no_token Other inner h.0.2 texts.0) in
+    let i = inside_each HasText is_comment (entries_of no_token (with_comma_nodes one (elems_own Other inner))) (texts_along one no_token Other inner h.0.2 texts.0) in
     ((segs_texts _ i.0, i.1), texts_along false (end_of_node closing.line) _ xs h.1 texts.1)
 
 -- the call of a rule has the texts of one that is none
@@ -156,9 +156,9 @@ segment_texts (s ∷ ss) end h k = (comments_join is_comment s.before end h.0 k,
 pub read_texts : (first depth : ℕ) (bytes : List ℕ) (tokens : List Placed) (t : Statement) → AreTokensOf first depth bytes tokens → IsStatementOf tokens t → HasTexts t
 read_texts first depth bytes tokens t are of =
     let is = tree_of tokens t of in
-    let i = inside (own_items true (elems_own Other is.elems)) in
+    let i = inside (with_comma_nodes true (elems_own Other is.elems)) in
     let s = one_segment i.segs i.end in
     let texts = elems_texts is_token_text is.elems (subst (λ ts. list_all is_token_text ts ≡ true) is.tokens_are (unlined_texts is_token_text tokens (tokens_are_texts first depth bytes tokens are))) in
-    let each = inside_each HasText is_comment (entries_of no_token (own_items true (elems_own Other is.elems))) (texts_along true no_token Other is.elems is.well texts) in
+    let each = inside_each HasText is_comment (entries_of no_token (with_comma_nodes true (elems_own Other is.elems))) (texts_along true no_token Other is.elems is.well texts) in
     let own = segment_texts i.segs i.end (segs_texts (segs_of i.segs) each.0) each.1 in
     subst HasTexts (sym is.is) (record { some = class_some (rule_nodes s.nodes); before = own.0; nodes = rule_texts s.nodes own.1; suffix = own.2 })

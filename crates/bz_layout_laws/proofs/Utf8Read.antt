@@ -11,7 +11,7 @@ use Rattle.bz_tree.specs.declared.tree.kinds.Mark.{Mark}
 use Rattle.bz_tree.specs.declared.tree.kinds.Mark.TheVariants.{Open, Close, Comma, Comment, Newline, Plain}
 use Rattle.bz_tree.specs.declared.tree.kinds.Preceding.{Preceding}
 use Rattle.bz_tree.specs.declared.tree.kinds.Preceding.TheVariants.{Other}
-use Rattle.bz_tree.specs.Brackets.{own_items, preceding, end_line}
+use Rattle.bz_tree.specs.Brackets.{with_comma_nodes, preceding, end_line}
 use Rattle.bz_tree.specs.Elements.{has_for}
 use Rattle.bz_tree.specs.Elements.{single, bracket, Elems, no_elems, elem, own_of, elems_own, is_single, AreWell}
 use Rattle.bz_tree.specs.Comments.{beside}
@@ -34,8 +34,8 @@ Passes q x = item_passes q x ≡ true
 abbrev passes_token : (List ℕ → Bool) → Placed → Bool
 passes_token q t = q t.text
 
-more_passes : (q : List ℕ → Bool) (one : Bool) (at : Last) (m : Mark) (t : Placed) (owns : List Inner) → mark_of t ≡ m → is_single m ≡ true → q t.text ≡ true → ((last : Last) → Each (Passes q) q (entries_of last (own_items one owns)))
-    → Each (Passes q) q (entries_of at (own_items one (own_of m t ∷ owns)))
+more_passes : (q : List ℕ → Bool) (one : Bool) (at : Last) (m : Mark) (t : Placed) (owns : List Inner) → mark_of t ≡ m → is_single m ≡ true → q t.text ≡ true → ((last : Last) → Each (Passes q) q (entries_of last (with_comma_nodes one owns)))
+    → Each (Passes q) q (entries_of at (with_comma_nodes one (own_of m t ∷ owns)))
 more_passes q true at Comma t owns e ok is rest = (is, rest (end_of_node t.line))
 more_passes q false at Comma t owns e ok is rest = rest (end_of_comma t.line)
 more_passes q true at Comment t owns e ok is rest = (is, rest no_token)
@@ -57,17 +57,17 @@ each_segs_pass q (seg before nodes suffix ss) h =
     (both (list_all q before && items_pass q nodes) (list_all q (beside suffix)) (both (list_all q before) (items_pass q nodes) h.0 (nodes_pass q nodes h.2)) h.3)
     (each_segs_pass q ss h.4)
 
-passes_along : (q : List ℕ → Bool) (one : Bool) (at : Last) (b : Preceding) (xs : Elems) → AreWell b xs → ElemsTexts (passes_token q) xs → Each (Passes q) q (entries_of at (own_items one (elems_own b xs)))
+passes_along : (q : List ℕ → Bool) (one : Bool) (at : Last) (b : Preceding) (xs : Elems) → AreWell b xs → ElemsTexts (passes_token q) xs → Each (Passes q) q (entries_of at (with_comma_nodes one (elems_own b xs)))
 passes_along q one at b no_elems h texts = tt
 passes_along q one at b (elem (single t) xs) h texts =
     more_passes q one at (mark_of t) t (elems_own (preceding b (own_of (mark_of t) t)) xs) refl h.0 texts.0 (λ last. passes_along q one last (preceding b (own_of (mark_of t) t)) xs h.1 texts.1)
 passes_along q true at b (elem (bracket shape opening inner closing) xs) h texts =
     let one = is_one (group_kind shape b (has_for (elems_own Other inner))) in
-    let i = inside_each (Passes q) q (entries_of no_token (own_items one (elems_own Other inner))) (passes_along q one no_token Other inner h.0.2 texts.0) in
+    let i = inside_each (Passes q) q (entries_of no_token (with_comma_nodes one (elems_own Other inner))) (passes_along q one no_token Other inner h.0.2 texts.0) in
     (both _ _ (each_segs_pass q _ i.0) i.1, passes_along q true (end_of_node closing.line) _ xs h.1 texts.1)
 passes_along q false at b (elem (bracket shape opening inner closing) xs) h texts =
     let one = is_one (group_kind shape b (has_for (elems_own Other inner))) in
-    let i = inside_each (Passes q) q (entries_of no_token (own_items one (elems_own Other inner))) (passes_along q one no_token Other inner h.0.2 texts.0) in
+    let i = inside_each (Passes q) q (entries_of no_token (with_comma_nodes one (elems_own Other inner))) (passes_along q one no_token Other inner h.0.2 texts.0) in
     (both _ _ (each_segs_pass q _ i.0) i.1, passes_along q false (end_of_node closing.line) _ xs h.1 texts.1)
 
 -- the call of a rule has the texts of one that is none
@@ -98,10 +98,10 @@ segment_passes q (s ∷ ss) end h k = (comments_join q s.before end h.0 k, nodes
 pub read_passes : (q : List ℕ → Bool) (tokens : List Placed) (t : Statement) → list_all (passes_token q) tokens ≡ true → IsStatementOf tokens t → statement_passes q t ≡ true
 read_passes q tokens t pass of =
     let is = tree_of tokens t of in
-    let i = inside (own_items true (elems_own Other is.elems)) in
+    let i = inside (with_comma_nodes true (elems_own Other is.elems)) in
     let s = one_segment i.segs i.end in
     let texts = elems_texts (passes_token q) is.elems (subst (λ ts. list_all (passes_token q) ts ≡ true) is.tokens_are (unlined_texts (passes_token q) tokens pass)) in
-    let each = inside_each (Passes q) q (entries_of no_token (own_items true (elems_own Other is.elems))) (passes_along q true no_token Other is.elems is.well texts) in
+    let each = inside_each (Passes q) q (entries_of no_token (with_comma_nodes true (elems_own Other is.elems))) (passes_along q true no_token Other is.elems is.well texts) in
     let own = segment_passes q i.segs i.end each.0 each.1 in
     subst (λ t. statement_passes q t ≡ true) (sym is.is) (both _ _ (both _ _ own.0 (rule_passes q s.nodes own.1)) own.2)
 

@@ -8,7 +8,8 @@ use Rattle.bz_token.specs.Reading.{AreTokensOf}
 use Rattle.bz_tree.specs.declared.tree.Class.{Class}
 use Rattle.bz_tree.specs.declared.tree.Class.TheVariants.{Load, Assign, Rule, Other, Block}
 use Rattle.bz_tree.specs.Chunk.{IsPlain, IsOneOf, IsStatementIn}
-use Rattle.bz_tree.specs.Statement.{first_seen, first_token, is_kept, is_load_word, class_of, is_assign}
+use Rattle.bz_tree.specs.Statement.{first_seen, first_token, is_kept, class_of, is_assign}
+use Rattle.bz_tree.specs.Kinds.{is_load_word}
 use Rattle.bz_tree.specs.Tree.{Item, leaf, group, Statement, items_of, is_rule}
 use Rattle.bz_layout.specs.Layout.{layout_text}
 use Rattle.bz_layout_laws.specs.Legible.{IsLegible, begins_block}

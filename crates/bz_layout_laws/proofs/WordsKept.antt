@@ -20,7 +20,7 @@ use Rattle.bz_tree.specs.Kinds.{mark_of, kind_mark, operator_mark, group_kind, i
 use Rattle.bz_tree.specs.Owners.{Inner, node, comma, comment}
 use Rattle.bz_tree.specs.Cells.{Last, no_token, end_of_node, end_of_comma, inside, Entry, a_node, a_comma, a_comment, first_cell, other_cells, later_lines, nodes_in, with_segment, cell_segment, below_last, same_line, segments_from, entries_of}
 use Rattle.bz_tree.specs.private.KindSteps.{own_item}
-use Rattle.bz_tree.specs.Brackets.{own_items, preceding, is_line, without_lines}
+use Rattle.bz_tree.specs.Brackets.{with_comma_nodes, preceding, is_line, without_lines}
 use Rattle.bz_tree.specs.Elements.{has_for}
 use Rattle.bz_tree.specs.Elements.{group_of}
 use Rattle.bz_tree.specs.Elements.{Elem, single, bracket, Elems, no_elems, elem, elem_tokens, elems_tokens, elem_own, elems_own, own_of, is_single, IsWell, AreWell}
@@ -117,10 +117,10 @@ one_words true (comma t) is = ap (λ m. word_of m t.kind t.text) is
 one_words true (comment line text) is = refl
 one_words false o is = refl
 
-owns_one_words : (one : Bool) (os : List Inner) → AreCommas os → owns_words (own_items one os) ≡ owns_words os
+owns_one_words : (one : Bool) (os : List Inner) → AreCommas os → owns_words (with_comma_nodes one os) ≡ owns_words os
 owns_one_words one [] are = refl
 owns_one_words one (o ∷ os) are =
-    ap (λ words. words ++ owns_words (own_items one os)) (one_words one o are.0) ∙ ap (λ words. own_words o ++ words) (owns_one_words one os are.1)
+    ap (λ words. words ++ owns_words (with_comma_nodes one os)) (one_words one o are.0) ∙ ap (λ words. own_words o ++ words) (owns_one_words one os are.1)
 
 inside_words : (os : List Inner) → segments_words (inside os).segs ≡ owns_words os
 inside_words os =
@@ -129,7 +129,7 @@ inside_words os =
 
 group_words : (kind : GroupKind) (owns : List Inner) → AreCommas owns → item_words (group_of kind owns) ≡ bracket_word (opening kind) ∷ owns_words owns ++ bracket_word (closing kind) ∷ []
 group_words kind owns are =
-    ap (λ words. bracket_word (opening kind) ∷ words ++ bracket_word (closing kind) ∷ []) (inside_words (own_items (is_one kind) owns) ∙ owns_one_words (is_one kind) owns are)
+    ap (λ words. bracket_word (opening kind) ∷ words ++ bracket_word (closing kind) ∷ []) (inside_words (with_comma_nodes (is_one kind) owns) ∙ owns_one_words (is_one kind) owns are)
 
 -- the texts of brackets
 abbrev open_text : Shape → List ℕ
@@ -251,7 +251,7 @@ mutual
       )
 
 -- outside brackets there is one cell
-one_cell : (last : Last) (os : List Inner) → other_cells (entries_of last (own_items true os)) ≡ []
+one_cell : (last : Last) (os : List Inner) → other_cells (entries_of last (with_comma_nodes true os)) ≡ []
 one_cell last [] = refl
 one_cell last (node line x ∷ os) = one_cell (end_of_node line) os
 one_cell last (comma t ∷ os) = one_cell (end_of_node t.line) os
@@ -300,7 +300,7 @@ marked_words false xs is = refl
 
 segment_words : (owns : List Inner) → AreCommas owns → nodes_words (segment_of owns).nodes ≡ owns_words owns
 segment_words owns are =
-    let os = own_items true owns in
+    let os = with_comma_nodes true owns in
     let es = entries_of no_token os in
     let s = one_segment (inside os).segs (inside os).end in
     let alone = one_nodes (first_cell es) (other_cells es) (inside os).end (one_cell no_token owns) in

@@ -7,7 +7,7 @@ ghost use Rattle.bz_tree.specs.Tree.{Segment, group, segs_of};
 ghost use Rattle.bz_tree.specs.Owners.{Inner, no_empty_cell, inside};
 ghost use Rattle.bz_tree.specs.Cells.{no_token, inside_by_cells, entries_of};
 ghost use Rattle.bz_layout_laws.specs.Written.{written_entries, HaveNodes};
-ghost use Rattle.bz_tree.specs.Brackets.{own_items, is_paren, group_of};
+ghost use Rattle.bz_tree.specs.Brackets.{with_comma_nodes, is_paren, group_of};
 ghost use Rattle.bz_tree.specs.Statement.{segment_of};
 ghost use Rattle.bz_tree.specs.Elements.{with_rule_call};
 ghost use Rattle.bz_token.specs.Common.{is_filled};
@@ -27,23 +27,23 @@ pub fn owners_read_back()
 /// So a group is read back whose inside stands so.
 pub fn group_read_back()
     ensures { (kind : GroupKind) (owns : List Inner) (trailing : Bool) (segs : List Segment) (end : List (List ℕ))
-        → HaveNodes segs → entries_of no_token (own_items (is_one kind) owns) ≡ written_entries trailing segs end
+        → HaveNodes segs → entries_of no_token (with_comma_nodes (is_one kind) owns) ≡ written_entries trailing segs end
         → (group_of kind owns
         ≡ group kind (segs_of segs) (is_paren kind && (length segs == 1) && (trailing && is_filled segs)) end)
-        × (no_empty_cell (own_items (is_one kind) owns) ≡ true) }
+        × (no_empty_cell (with_comma_nodes (is_one kind) owns) ≡ true) }
 {}
 
 /// Outside brackets a statement is read back that stands so: the comments above it, its nodes, the comment beside
 /// the last.
 pub fn statement_read_back()
     ensures { (owns : List Inner) (s : Segment) → is_filled s.nodes ≡ true
-        → entries_of no_token (own_items true owns) ≡ written_entries false (s ∷ []) []
+        → entries_of no_token (with_comma_nodes true owns) ≡ written_entries false (s ∷ []) []
         → segment_of owns ≡ with_rule_call s }
 {}
 
 /// Outside brackets comment lines alone are read back.
 pub fn comment_lines_read_back()
-    ensures { (owns : List Inner) (texts : List (List ℕ)) → entries_of no_token (own_items true owns)
+    ensures { (owns : List Inner) (texts : List (List ℕ)) → entries_of no_token (with_comma_nodes true owns)
         ≡ written_entries false [] texts
         → segment_of owns ≡ record { before = texts; nodes = []; suffix = None } }
 {}

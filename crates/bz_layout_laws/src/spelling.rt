@@ -3,7 +3,7 @@
 ghost use Rattle.std.specs.Prelude.{◌≡◌, ◌==◌, ℕ, List, count_by, true, false};
 ghost use Rattle.bz_token.specs.declared.token.Kind.{Kind};
 ghost use Rattle.bz_token.specs.Lexical.{is_text, is_string_kind};
-ghost use Rattle.bz_label.specs.Values.{value_at};
+ghost use Rattle.bz_label.specs.Literals.{value_at};
 ghost use Rattle.bz_tree.specs.Tree.{Statement};
 ghost use Rattle.bz_layout.specs.Respell.{respell};
 ghost use Rattle.bz_layout.specs.Layout.{layout, layout_text};

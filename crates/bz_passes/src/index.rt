@@ -54,7 +54,8 @@ impl Index {
         position: usize,
     ) -> Result<(), NoMemory>
         ensures names { OnOk result ((name : List ℕ) → spec.named self.new name ≡ spec.named self.old name
-            ++ (if spec.asks_for name (option_map (λ text. text.now) asked.entry) then position ∷ [] else [])) }
+            ++ (if spec.asks_for name (option_map (λ text. text.now) asked.entry) then position ∷ []
+            else [])) }
         ensures others { OnOk result (self.new.others.items ≡ self.old.others.items
             ++ (if is_none (option_map (λ text. text.now) asked.entry) then position ∷ [] else [])) }
     {
@@ -82,7 +83,8 @@ impl Index {
 
     /// The place of the bucket for a name. Where there is none, the first is made.
     fn place_for(&mut self, alloc: Global, name: &str) -> Result<usize, NoMemory>
-        ensures place { IfOk result (λ place. place ≡ spec.bucket_of name.now (length self.new.buckets.items)) }
+        ensures place { IfOk result (λ place. place
+            ≡ spec.bucket_of name.now (length self.new.buckets.items)) }
         ensures within { IfOk result (λ place. place < length self.new.buckets.items) }
         ensures names { OnOk result ((name : List ℕ) → spec.named self.new name ≡ spec.named self.old name) }
         ensures others { self.new.others ≡ self.old.others }

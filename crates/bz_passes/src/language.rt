@@ -68,6 +68,7 @@ pub trait Language {
     ) -> Result<Facts, NoMemory>
         ensures slot { OnOk result (seen slot.new ≡ (meaning self.now).after command.now (seen slot.old)) }
         ensures log { OnOk result (log.new ≡ log.old ++ (meaning self.now).says command.now (seen slot.old)) }
-        ensures changed { IfOk result (λ facts. facts.changed ≡ changes self.now command.now (seen slot.old)) }
+        ensures changed { IfOk result (λ facts. facts.changed
+            ≡ changes self.now command.now (seen slot.old)) }
         ensures failed { IfOk result (λ facts. facts.failed ≡ fails self.now command.now (seen slot.old)) };
 }

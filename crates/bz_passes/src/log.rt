@@ -130,7 +130,8 @@ impl LogParts {
         ensures kinds { self.new.kinds ≡ self.old.kinds }
         ensures lines { OnOk result (self.new.lines ≡ self.old.lines ++ line_text entry.now) }
         ensures messages { OnOk result (self.new.messages ≡ self.old.messages ++ message_text entry.now) }
-        ensures stays { OnErr result ((self.new.lines ≡ self.old.lines) × (self.new.messages ≡ self.old.messages)) }
+        ensures stays { OnErr result ((self.new.lines ≡ self.old.lines)
+            × (self.new.messages ≡ self.old.messages)) }
     {
         match entry {
             Entry::Line(text) => self.lines.push(text.as_str()),

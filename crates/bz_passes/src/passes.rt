@@ -76,7 +76,8 @@ impl<T: Keyed, C> Passes<T, C> {
     /// The first pass asks for no name.
     #[inline(always)]
     fn begins_for_all(&self) -> bool
-        ensures { IsTrue result → (0 < length self.now) × ((d : _) → T.asked (get_or self.now 0 d).target ≡ None) }
+        ensures { IsTrue result → (0 < length self.now)
+            × ((d : _) → T.asked (get_or self.now 0 d).target ≡ None) }
     {
         match self.as_slice() {
             [first, ..] => first.target.asked().is_none(),

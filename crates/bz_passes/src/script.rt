@@ -27,7 +27,8 @@ fn execute<L: Language>(
     ensures log { OnOk result (log.new
         ≡ log.old ++ entries (L.meaning language.now) command.now (with_mark true (L.seen slot.old))) }
     ensures changed { OnOk result (facts.new.changed
-        ≡ (facts.old.changed || meets (L.changes language.now) command.now (with_mark true (L.seen slot.old)))) }
+        ≡ (facts.old.changed || meets (L.changes language.now) command.now
+        (with_mark true (L.seen slot.old)))) }
     ensures failed { OnOk result (facts.new.failed
         ≡ (facts.old.failed || meets (L.fails language.now) command.now (with_mark true (L.seen slot.old)))) }
 {
@@ -47,9 +48,11 @@ fn run_commands<L: Language>(
 ) -> Result<(), NoMemory>
     requires { length logs.old ≡ length commands.now }
     ensures slot { OnOk result (L.seen slot.new
-        ≡ (slot_after_commands (L.meaning language.now) commands.now (with_mark true (L.seen slot.old))).slot) }
+        ≡ (slot_after_commands (L.meaning language.now) commands.now
+        (with_mark true (L.seen slot.old))).slot) }
     ensures logs { OnOk result (logs.new
-        ≡ logs_and logs.old (logs_alone (L.meaning language.now) commands.now (with_mark true (L.seen slot.old)))) }
+        ≡ logs_and logs.old (logs_alone (L.meaning language.now) commands.now
+        (with_mark true (L.seen slot.old)))) }
     ensures changed { OnOk result (facts.new.changed ≡ (facts.old.changed || some_of_commands_alone
         (L.meaning language.now) (L.changes language.now) commands.now (with_mark true (L.seen slot.old)))) }
     ensures failed { OnOk result (facts.new.failed ≡ (facts.old.failed || some_of_commands_alone
@@ -71,7 +74,8 @@ fn run_pass<L: Language>(
 ) -> Result<(), NoMemory>
     requires fits { length kept.old.logs ≡ length pass.now.commands }
     requires marked { IsTrue ((L.meaning language.now).marks pass.now.target (L.seen slot.old)) }
-    ensures slot { OnOk result (L.seen slot.new ≡ slot_after_pass (L.meaning language.now) pass.now (L.seen slot.old)) }
+    ensures slot { OnOk result (L.seen slot.new
+        ≡ slot_after_pass (L.meaning language.now) pass.now (L.seen slot.old)) }
     ensures kept { OnOk result (kept.new
         ≡ pass_and kept.old (pass_alone (L.meaning language.now) pass.now (L.seen slot.old))) }
     ensures changed { OnOk result (facts.new.changed ≡ (facts.old.changed || some_of_commands_alone
@@ -144,7 +148,8 @@ pub fn run_script<L: Language>(
     // There is a place for each pass and each command, before and after.
     requires { Fits kept.old passes.now }
     ensures fits { OnOk result (Fits kept.new passes.now) }
-    ensures slot { OnOk result (L.seen slot.new ≡ slot_after (L.meaning language.now) passes.now (L.seen slot.old)) }
+    ensures slot { OnOk result (L.seen slot.new
+        ≡ slot_after (L.meaning language.now) passes.now (L.seen slot.old)) }
     // Some execution failed on this slot, or before.
     ensures failed { OnOk result (facts.new.failed ≡ (facts.old.failed
         || some_alone (L.meaning language.now) (L.fails language.now) passes.now (L.seen slot.old))) }
@@ -173,7 +178,8 @@ pub fn passes_by<L: Language>(
     ensures is { result ≡ not (some_may_mark L.Target.asked key.entry passes.now) }
     ensures law { IsTrue result → (slot : Slot L.Seen)
         → IsKeyOf (L.meaning language.now) L.Target.asked slot key.entry
-        → IsPassedBy (L.meaning language.now) (L.changes language.now) (L.fails language.now) passes.now slot }
+        → IsPassedBy (L.meaning language.now) (L.changes language.now)
+        (L.fails language.now) passes.now slot }
 {
     passes.first(key).is_none()
 }

@@ -1,6 +1,7 @@
 -- The second lines below `cannot open` and `cannot write`: why, and what to do (this project's own rule).
 use Rattle.std.specs.Prelude.{ℕ, Bool, ◌||◌, if◌then◌else◌, List, [], ◌∷◌, Option, Some, None, codes, nat_eq, bytes_eq}
 use Rattle.std.specs.List.{list_any, starts_with, ends_with}
+use Rattle.bz_token.specs.Common.{is_one_of}
 use Rattle.bz_rule.specs.declared.command.TheConstants.{LEFT_OUT}
 use Rattle.bz_folder.specs.declared.folder.CannotOpen.{CannotOpen}
 use Rattle.bz_folder.specs.declared.folder.CannotOpen.TheVariants.{Absent, NoRight as NoRightToOpen, NotRegular, Failed}
@@ -13,14 +14,14 @@ is_left_out home = list_any (λ command. bytes_eq command.now home) LEFT_OUT
 
 -- the names of a BUILD file, and paths that end in one
 abbrev pub is_build_file : List ℕ → Bool
-is_build_file path = list_any (bytes_eq path) (codes "BUILD" ∷ codes "BUILD.bazel" ∷ [])
+is_build_file path = is_one_of (codes "BUILD" ∷ codes "BUILD.bazel" ∷ []) path
 
 abbrev pub ends_in_build_file : List ℕ → Bool
 ends_in_build_file path = ends_with nat_eq path (codes "/BUILD") || ends_with nat_eq path (codes "/BUILD.bazel")
 
 -- the names of other files that Bazel reads, and paths that end in one
 abbrev pub is_other_file : List ℕ → Bool
-is_other_file path = list_any (bytes_eq path) (codes "WORKSPACE" ∷ codes "WORKSPACE.bazel" ∷ codes "MODULE.bazel" ∷ [])
+is_other_file path = is_one_of (codes "WORKSPACE" ∷ codes "WORKSPACE.bazel" ∷ codes "MODULE.bazel" ∷ []) path
 
 abbrev pub ends_in_other_file : List ℕ → Bool
 ends_in_other_file path = ends_with nat_eq path (codes "/WORKSPACE") || (ends_with nat_eq path (codes "/WORKSPACE.bazel") || ends_with nat_eq path (codes "/MODULE.bazel"))

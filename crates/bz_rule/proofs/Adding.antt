@@ -7,13 +7,15 @@ use Rattle.bz_tree.specs.declared.tree.GroupKind.TheVariants.{List as ListKind}
 use Rattle.bz_tree.specs.Rows.{RowPart, a_token, above, beside_part, closing, opening, items_parts, parts_of, segment_end, segs_parts}
 use Rattle.bz_tree.specs.Tree.{Item, Segment, Statement, items_of, segs_of}
 use Rattle.bz_label.specs.Labels.{Package}
-use Rattle.bz_label.specs.LabelSetViews.{Gains, has as holds_label}
-use Rattle.bz_label.specs.declared.label_set.LabelSet.{LabelSet}
-use Rattle.bz_rule.specs.Add.{add, add_by_value, adds, fresh, is_fresh, new_elements, with_added}
+use Rattle.bz_rule.specs.Add.{add}
+use Rattle.bz_rule.specs.AddByValue.{add_by_value, fresh, is_fresh, new_elements, with_added}
+use Rattle.bz_rule.specs.Reports.{adds}
 use Rattle.bz_rule.proofs.Adds.{by_value_is}
-use Rattle.bz_attribute.specs.Effects.{argument, done, edit_first, has, list_item, no_list_note, string, with_args}
+use Rattle.bz_attribute.specs.Effects.{argument, edit_first, has, list_item, no_list_note, string, with_args}
+use Rattle.bz_attribute.specs.Reports.{done}
 use Rattle.bz_attribute.specs.Elements.{AreElementsTo, AreLists, IsListIn, IsValueAt}
-use Rattle.bz_attribute.specs.Lists.{parts, same, with_value}
+use Rattle.bz_attribute.specs.Lists.{parts, with_value}
+use Rattle.bz_label.specs.Same.{same}
 use Rattle.bz_attribute.specs.ListWalk.{edit_first_part}
 use Rattle.bz_attribute.specs.RowEdits.{replaced_at}
 use Rattle.bz_attribute.specs.RowPlaces.{IsLocal, IsPlaceOf, IsRuleRow, alone}
@@ -23,15 +25,13 @@ use Rattle.bz_attribute.specs.declared.done.Note.TheVariants.{NotAList}
 use Rattle.bz_attribute.specs.declared.place.Place.{Place}
 use Rattle.bz_attribute.proofs.EditedAt.{none_first, segs_join, with_args_at}
 use Rattle.bz_attribute.proofs.ListEdits.{appended}
-use Rattle.bz_rule.proofs.Known.{Knows, knows_fresh, knows_more}
 use Rattle.bz_attribute.proofs.Locals.{edit_same, edits_one, is_there}
 use Rattle.bz_token.specs.Common.{is_empty}
 
 -- the elements for those of the first i values that are missing were written
-pub record IsAdding (home : Package) (lists : List (List Segment)) (values : List (List ℕ)) (i : ℕ) (set : LabelSet) (before now : List RowPart) : Type 0 where
+pub record IsAdding (home : Package) (lists : List (List Segment)) (values : List (List ℕ)) (i : ℕ) (before now : List RowPart) : Type 0 where
   pub made : List Segment
   pub parts : now ≡ before ++ segs_parts (segs_of made)
-  pub knows : Knows home lists values i set
   pub added : made ++ map string (fresh home lists (take i values) (drop i values)) ≡ new_elements home lists values
 
 -- value by value
@@ -48,37 +48,30 @@ fresh_step home lists values i w d new added h at made =
     ∙ ap (λ (z : List Segment). new ++ z) (sym (map-append string one later))
     ∙ ap (λ (z : List (List ℕ)). new ++ map string z) (ap (λ (e : List (List ℕ)). one ++ fresh home lists e (drop (i + 1) values)) read ∙ sym (ap (fresh home lists (take i values)) here))
 
-pub adding_begins : (home : Package) (lists : List (List Segment)) (values : List (List ℕ)) (set : LabelSet) (before : List RowPart) → Knows home lists values 0 set → IsAdding home lists values 0 set before before
-adding_begins home lists values set before knows = record { made = []; parts = sym (append-nil before); knows = knows; added = refl }
+pub adding_begins : (home : Package) (lists : List (List Segment)) (values : List (List ℕ)) (before : List RowPart) → IsAdding home lists values 0 before before
+adding_begins home lists values before = record { made = []; parts = sym (append-nil before); added = refl }
 
-pub adding_more : (home : Package) (lists : List (List Segment)) (values : List (List ℕ)) (i : ℕ) (word : List ℕ) (old new : LabelSet) (before now after : List RowPart) → IsAdding home lists values i old before now → i < length values → word ≡ get_or values i []
-    → Gains (λ text. same old.home.now text word) old new → new.home.now ≡ old.home.now → not (holds_label old word) ≡ true → after ≡ now ++ segs_parts (segs_of (string word ∷ [])) → IsAdding home lists values (i + 1) new before after
-adding_more home lists values i word old new before now after a h at more is fresh written =
-    let told : is_fresh home lists (take i values) (get_or values i []) ≡ true = sym (knows_fresh home lists values i word old h at a.knows) ∙ fresh in
-    let told_word : is_fresh home lists (take i values) word ≡ true = ap (is_fresh home lists (take i values)) at ∙ told in
-    record {
-      made = a.made ++ string word ∷ [];
-      parts =
-          written ∙ ap (λ (ps : List RowPart). ps ++ segs_parts (segs_of (string word ∷ []))) a.parts
-          ∙ append_assoc before (segs_parts (segs_of a.made)) (segs_parts (segs_of (string word ∷ [])))
-          ∙ ap (λ (ps : List RowPart). before ++ ps) (sym (segs_join a.made (string word ∷ [])));
-      knows = knows_more home lists values i word old new h at a.knows more is;
-      added = fresh_step home lists values i word [] a.made (a.made ++ string word ∷ []) h at (rw told_word refl) ∙ a.added;
-    }
+pub adding_more : (home : Package) (lists : List (List Segment)) (values : List (List ℕ)) (i : ℕ) (word : List ℕ) (before now after : List RowPart) → IsAdding home lists values i before now → i < length values → word ≡ get_or values i []
+    → is_fresh home lists (take i values) word ≡ true → after ≡ now ++ segs_parts (segs_of (string word ∷ [])) → IsAdding home lists values (i + 1) before after
+adding_more home lists values i word before now after a h at fresh written = record {
+  made = a.made ++ string word ∷ [];
+  parts =
+      written ∙ ap (λ (ps : List RowPart). ps ++ segs_parts (segs_of (string word ∷ []))) a.parts
+      ∙ append_assoc before (segs_parts (segs_of a.made)) (segs_parts (segs_of (string word ∷ [])))
+      ∙ ap (λ (ps : List RowPart). before ++ ps) (sym (segs_join a.made (string word ∷ [])));
+  added = fresh_step home lists values i word [] a.made (a.made ++ string word ∷ []) h at (rw fresh refl) ∙ a.added;
+}
 
-pub adding_none : (home : Package) (lists : List (List Segment)) (values : List (List ℕ)) (i : ℕ) (word : List ℕ) (old new : LabelSet) (before now after : List RowPart) → IsAdding home lists values i old before now → i < length values → word ≡ get_or values i []
-    → Gains (λ text. same old.home.now text word) old new → new.home.now ≡ old.home.now → not (holds_label old word) ≡ false → after ≡ now → IsAdding home lists values (i + 1) new before after
-adding_none home lists values i word old new before now after a h at more is known same =
-    let told_word : is_fresh home lists (take i values) word ≡ false = ap (is_fresh home lists (take i values)) at ∙ sym (knows_fresh home lists values i word old h at a.knows) ∙ known in
-    record {
-      made = a.made;
-      parts = same ∙ a.parts;
-      knows = knows_more home lists values i word old new h at a.knows more is;
-      added = fresh_step home lists values i word [] a.made a.made h at (rw told_word (sym (append-nil a.made))) ∙ a.added;
-    }
+pub adding_none : (home : Package) (lists : List (List Segment)) (values : List (List ℕ)) (i : ℕ) (word : List ℕ) (before now after : List RowPart) → IsAdding home lists values i before now → i < length values → word ≡ get_or values i []
+    → is_fresh home lists (take i values) word ≡ false → after ≡ now → IsAdding home lists values (i + 1) before after
+adding_none home lists values i word before now after a h at known same = record {
+  made = a.made;
+  parts = same ∙ a.parts;
+  added = fresh_step home lists values i word [] a.made a.made h at (rw known (sym (append-nil a.made))) ∙ a.added;
+}
 
-pub adding_ends : (home : Package) (lists : List (List Segment)) (values : List (List ℕ)) (i : ℕ) (set : LabelSet) (before now : List RowPart) → IsAdding home lists values i set before now → length values ≤ i → now ≡ before ++ segs_parts (segs_of (new_elements home lists values))
-adding_ends home lists values i set before now a h =
+pub adding_ends : (home : Package) (lists : List (List Segment)) (values : List (List ℕ)) (i : ℕ) (before now : List RowPart) → IsAdding home lists values i before now → length values ≤ i → now ≡ before ++ segs_parts (segs_of (new_elements home lists values))
+adding_ends home lists values i before now a h =
     let all : a.made ≡ new_elements home lists values =
     sym (append-nil a.made) ∙ ap (λ (ws : List (List ℕ)). a.made ++ map string (fresh home lists (take i values) ws)) (sym (drop_all i values h)) ∙ a.added in
     a.parts ∙ ap (λ (ss : List Segment). before ++ segs_parts (segs_of ss)) all

@@ -9,17 +9,18 @@ use Rattle.bz_token.proofs.Classes.{same_bytes}
 use Rattle.bz_token.specs.Common.{is_empty, map_or}
 use Rattle.bz_tree.specs.Tree.{Segment}
 use Rattle.bz_label.specs.Labels.{Package}
-use Rattle.bz_label.specs.Same.{completed}
+use Rattle.bz_label.specs.Same.{completed, same}
 use Rattle.bz_label.specs.declared.arguments.Chosen.TheVariants.{Values}
 use Rattle.bz_label.proofs.ReadBack.{quoted_value}
 use Rattle.bz_attribute.specs.Rules.{first_named, is_named, string_value, value}
-use Rattle.bz_attribute.specs.Lists.{equals, parts, same, with_value}
+use Rattle.bz_attribute.specs.Lists.{equals, parts, with_value}
 use Rattle.bz_attribute.specs.ListWalk.{edit_first_part}
 use Rattle.bz_attribute.specs.Effects.{argument, edit_first, has, is_chosen, list_item, no_list_note, string}
 use Rattle.bz_attribute.specs.declared.done.Note.TheVariants.{NotAList}
 use Rattle.bz_attribute.proofs.LabelSets.{any_joined}
 use Rattle.bz_attribute.proofs.Locals.{has_first}
-use Rattle.bz_rule.specs.Add.{add, add_by_value, fresh, is_fresh, new_elements, with_added}
+use Rattle.bz_rule.specs.Add.{add}
+use Rattle.bz_rule.specs.AddByValue.{add_by_value, fresh, is_fresh, new_elements, with_added}
 use Rattle.bz_rule.specs.Move.{arrivals, elements_of, put_in}
 use Rattle.bz_rule.proofs.Arguments.{rest_same}
 

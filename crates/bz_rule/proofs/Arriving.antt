@@ -12,7 +12,8 @@ use Rattle.bz_tree.specs.Rows.{RowPart, part_view, segs_parts}
 use Rattle.bz_tree.specs.Tree.{Segment, segs_of}
 use Rattle.bz_label.specs.Labels.{Package}
 use Rattle.bz_label.specs.declared.arguments.Chosen.TheVariants.{All}
-use Rattle.bz_attribute.specs.Lists.{equals, same}
+use Rattle.bz_attribute.specs.Lists.{equals}
+use Rattle.bz_label.specs.Same.{same, completed}
 use Rattle.bz_rule.specs.Move.{arrivals}
 use Rattle.bz_attribute.specs.Rules.{string_value}
 use Rattle.bz_attribute.proofs.LabelSets.{any_joined}
@@ -20,7 +21,6 @@ use Rattle.std.proofs.Math.Bool.{or-false}
 use Rattle.bz_rule.specs.private.ListPlaces.{HaveArrivals, parts_at}
 use Rattle.bz_token.specs.Common.{map_or}
 use Rattle.bz_label.specs.LabelSetViews.{has}
-use Rattle.bz_label.specs.Same.{completed}
 use Rattle.bz_label.specs.Values.{value_of}
 use Rattle.bz_label.specs.declared.label_set.LabelSet.{LabelSet}
 use Rattle.bz_attribute.specs.Elements.{AreLists, IsNextElement, ListRest, elements_left, rest_parts}

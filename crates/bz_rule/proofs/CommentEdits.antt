@@ -5,7 +5,8 @@ use Rattle.std.proofs.lemmas.Bool.{false≢true}
 use Rattle.bz_token.specs.Common.{map_or}
 use Rattle.bz_tree.specs.Tree.{Segment, Statement}
 use Rattle.bz_label.specs.Labels.{Package}
-use Rattle.bz_attribute.specs.Effects.{done, edit_first, has, holds_rule, absent_note}
+use Rattle.bz_attribute.specs.Effects.{edit_first, has, holds_rule, absent_note}
+use Rattle.bz_attribute.specs.Reports.{done}
 use Rattle.bz_attribute.specs.Rules.{Rule, first_named, is_named, rule_of}
 use Rattle.bz_attribute.specs.declared.done.Done.{Done}
 use Rattle.bz_attribute.specs.declared.done.Note.TheVariants.{NoAttribute}

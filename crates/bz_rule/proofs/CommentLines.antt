@@ -7,7 +7,8 @@ use Rattle.bz_tree.specs.Rows.{RowPart, above, parts_of}
 use Rattle.bz_tree.specs.Tree.{Item, Segment, Statement}
 use Rattle.bz_label.specs.Labels.{Package}
 use Rattle.bz_rule.specs.Comment.{comment_element, comment_line, comment_note, comment_value, is_blank, trimmed}
-use Rattle.bz_attribute.specs.Effects.{done, edit_first, has, absent_note, with_args, with_comment}
+use Rattle.bz_attribute.specs.Effects.{edit_first, has, absent_note, with_args, with_comment}
+use Rattle.bz_attribute.specs.Reports.{done}
 use Rattle.bz_attribute.specs.ListWalk.{edit_element}
 use Rattle.bz_attribute.specs.Elements.{IsFirstEqual, IsListIn, IsValueAt, elements_left}
 use Rattle.bz_attribute.specs.Lists.{equals, parts}

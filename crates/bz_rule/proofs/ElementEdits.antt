@@ -10,10 +10,10 @@ use Rattle.bz_token.specs.declared.token.Kind.TheVariants.{String}
 use Rattle.bz_tree.specs.Tree.{Item, leaf, group, Segment, items_of, no_segs, seg, segs_of}
 use Rattle.bz_tree.specs.Rows.{RowPart, a_token, above, beside_part, closing, segment_end, items_parts, segs_parts}
 use Rattle.bz_label.specs.Labels.{Package}
-use Rattle.bz_attribute.specs.Rules.{elements, only_text}
+use Rattle.bz_attribute.specs.Rules.{only_text}
+use Rattle.bz_attribute.specs.ListWalk.{elements, edit_from, edit_list, is_part, parts_from, is_plus}
 use Rattle.bz_attribute.specs.Elements.{HasNoList, IsListIn, IsNextElement, ListRest, edited_rest, elements_left, rest_parts, value_parts}
-use Rattle.bz_attribute.specs.Lists.{edit_parts, is_plus, parts}
-use Rattle.bz_attribute.specs.ListWalk.{edit_from, edit_list, is_part, parts_from}
+use Rattle.bz_attribute.specs.Lists.{edit_parts, parts}
 use Rattle.bz_attribute.specs.declared.place.Place.{Place}
 use Rattle.bz_attribute.proofs.LabelSets.{any_joined}
 use Rattle.bz_attribute.proofs.ListEdits.{list_cut, long_opened, opened}

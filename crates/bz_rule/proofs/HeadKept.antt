@@ -13,7 +13,8 @@ use Rattle.bz_label.specs.declared.arguments.Setting.TheVariants.{ToKind, ToValu
 use Rattle.bz_attribute.specs.Rules.{Rule, rule_of, first_named, is_named, is_text, name_in, name_of, value, string_value}
 use Rattle.bz_attribute.specs.Lists.{edit_parts, equals, parts, with_value}
 use Rattle.bz_attribute.specs.ListWalk.{edit_first_part, edit_element}
-use Rattle.bz_rule.specs.Add.{add, add_by_value, new_elements, with_added}
+use Rattle.bz_rule.specs.Add.{add}
+use Rattle.bz_rule.specs.AddByValue.{add_by_value, new_elements, with_added}
 use Rattle.bz_rule.proofs.Adds.{by_value_is}
 use Rattle.bz_rule.specs.Comment.{comment_attribute, comment_element, comment_line, comment_note, comment_rule, comment_value}
 use Rattle.bz_attribute.specs.Effects.{argument, edit_first, edit_part, filtered, has, is_chosen, list_item, loses_all, unchosen, with_args, with_comment}

@@ -8,14 +8,13 @@ use Rattle.std.proofs.lemmas.List.Folds.{list_any-append, list_any_at}
 use Rattle.bz_token.proofs.Classes.{same_bytes}
 use Rattle.bz_tree.specs.Tree.{Segment}
 use Rattle.bz_label.specs.Labels.{Package}
-use Rattle.bz_label.specs.Same.{completed}
+use Rattle.bz_label.specs.Same.{completed, same}
 use Rattle.bz_label.specs.declared.arguments.Chosen.TheVariants.{All, Values}
 use Rattle.bz_label.specs.declared.label_set.LabelSet.{LabelSet}
 use Rattle.bz_label.specs.LabelSetViews.{Gains, has}
-use Rattle.bz_attribute.specs.Lists.{same}
 use Rattle.bz_attribute.specs.Rules.{string_value}
 use Rattle.bz_attribute.specs.Effects.{is_chosen}
-use Rattle.bz_rule.specs.Add.{is_fresh}
+use Rattle.bz_rule.specs.AddByValue.{is_fresh}
 use Rattle.bz_attribute.specs.private.ElementSets.{is_in}
 use Rattle.std.proofs.Math.Bool.{or-false}
 use Rattle.bz_token.specs.Common.{map_or}
@@ -75,9 +74,8 @@ knows_more home lists values i word old new h at known more is = record {
 
 -- it tells whether the value at i is fresh
 pub knows_fresh : (home : Package) (lists : List (List Segment)) (values : List (List ℕ)) (i : ℕ) (word : List ℕ) (set : LabelSet) → i < length values → word ≡ get_or values i [] → Knows home lists values i set
-    → not (has set word) ≡ is_fresh home lists (take i values) (get_or values i [])
+    → not (has set word) ≡ is_fresh home lists (take i values) word
 knows_fresh home lists values i word set h at known =
     let itself : same home word (get_or values i []) ≡ true = ap (same home word) (sym at) ∙ nat_list_eq_equiv.refl (completed home word) in
     let among : list_any (same home word) values ≡ true = list_any_at (same home word) values i [] h itself in
     ap not (known.all word ∙ ap (λ (b : Bool). b || list_any (same home word) (take i values)) (among_chosen home values lists word among))
-    ∙ ap (is_fresh home lists (take i values)) at

@@ -9,7 +9,8 @@ use Rattle.bz_rule.specs.Commands.{Command, is_command, after, args_after, args_
 use Rattle.bz_attribute.specs.Rules.{Rule, rule_of}
 use Rattle.bz_attribute.specs.declared.done.Done.{Done}
 use Rattle.bz_attribute.specs.declared.done.Note.{Note}
-use Rattle.bz_attribute.specs.Effects.{done, holds_rule, nodes_of, slot_done, with_args}
+use Rattle.bz_attribute.specs.Effects.{holds_rule, nodes_of, with_args}
+use Rattle.bz_attribute.specs.Reports.{done, slot_done}
 use Rattle.bz_attribute.specs.private.RuleNodes.{nodes_after}
 use Rattle.bz_attribute.specs.RowPlaces.{IsLocal, LooksAt}
 use Rattle.bz_rule.specs.OneAttribute.{one_attribute}

@@ -17,12 +17,13 @@ use Rattle.bz_rule.specs.Commands.{Command, is_command, after, args_changed, arg
 use Rattle.bz_rule.specs.declared.command.Action.{Action}
 use Rattle.bz_attribute.specs.declared.done.Done.{Done}
 use Rattle.bz_attribute.specs.declared.done.Note.{Note}
-use Rattle.bz_attribute.specs.Effects.{done, holds_rule, slot_done}
+use Rattle.bz_attribute.specs.Effects.{holds_rule}
+use Rattle.bz_attribute.specs.Reports.{done, slot_done}
 use Rattle.bz_attribute.specs.Rules.{Rule, kind_text, rule_of}
 use Rattle.bz_label.specs.declared.arguments.Setting.TheVariants.{ToKind, ToValues}
 use Rattle.bz_label.specs.declared.arguments.Commented.TheVariants.{Rule as OfRule, Attribute, Value}
-use Rattle.bz_rule.specs.Set.{sets_kind_of}
-use Rattle.bz_rule.specs.Print.{fields_of, line_of, missing, printed, prints}
+use Rattle.bz_rule.specs.Reports.{sets_kind_of, printed, prints}
+use Rattle.bz_rule.specs.Print.{fields_of, line_of, missing}
 use Rattle.bz_rule.specs.declared.commands.field.Field.{Field}
 use Rattle.bz_rule.specs.OneAttribute.{one_attribute}
 use Rattle.bz_rule.proofs.Lawful.{Lawful, Local}

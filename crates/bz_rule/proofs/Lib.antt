@@ -10,6 +10,7 @@ pub mod ElementEdits
 pub mod EmptiedLists
 mod Examples
 pub mod FirstEdits
+pub mod FreshValues
 pub mod HeadKept
 pub mod Kept
 pub mod Known
@@ -21,11 +22,12 @@ pub mod MovedRules
 pub mod Moves
 pub mod NamedArgument
 pub mod NotSeen
-pub mod OneValue
 pub mod PartLaws
 pub mod PlaceEdits
 pub mod Printed
 pub mod PrintedFields
+pub mod PrintedValues
+pub mod PrintedWords
 mod RowEdited
 mod RowStatements
 pub mod RuleClass

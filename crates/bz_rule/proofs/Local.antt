@@ -4,7 +4,8 @@ use Rattle.bz_tree.specs.Tree.{Segment}
 use Rattle.bz_label.specs.Labels.{Package}
 use Rattle.bz_attribute.specs.Rules.{first_named, is_named}
 use Rattle.bz_attribute.specs.Effects.{argument, edit_first, list_item, no_list_note, with_comment}
-use Rattle.bz_rule.specs.Add.{add, add_by_value, new_elements, with_added}
+use Rattle.bz_rule.specs.Add.{add}
+use Rattle.bz_rule.specs.AddByValue.{add_by_value, new_elements, with_added}
 use Rattle.bz_rule.proofs.Adds.{by_value_is}
 use Rattle.bz_rule.specs.Comment.{comment_attribute, comment_element, comment_line, comment_note, comment_value, no_value_note}
 use Rattle.bz_attribute.specs.RowPlaces.{IsLocal, LooksAt}

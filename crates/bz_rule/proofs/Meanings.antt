@@ -12,10 +12,13 @@ use Rattle.bz_label.specs.declared.arguments.Attributes.{Attributes}
 use Rattle.bz_label.specs.declared.arguments.Attributes.TheVariants.{Every, Named}
 use Rattle.bz_label.specs.declared.arguments.Chosen.{Chosen}
 use Rattle.bz_label.specs.declared.arguments.Chosen.TheVariants.{Values}
-use Rattle.bz_attribute.specs.Effects.{done, edit_first, filtered, is_chosen, unchosen, chooses}
-use Rattle.bz_attribute.specs.Lists.{edit_parts, is_attribute, parts, with_value, same}
-use Rattle.bz_rule.specs.Remove.{remove, removes}
-use Rattle.bz_rule.specs.Replace.{is_replaced, replace, replaced, replaced_in, replaces, replaces_in}
+use Rattle.bz_attribute.specs.Effects.{edit_first, filtered, is_chosen, unchosen}
+use Rattle.bz_attribute.specs.Reports.{done, chooses}
+use Rattle.bz_attribute.specs.Lists.{edit_parts, is_attribute, parts, with_value}
+use Rattle.bz_label.specs.Same.{same}
+use Rattle.bz_rule.specs.Remove.{remove}
+use Rattle.bz_rule.specs.Reports.{removes, replaces, replaces_in}
+use Rattle.bz_rule.specs.Replace.{is_replaced, replace, replaced, replaced_in}
 use Rattle.bz_attribute.specs.RowEdits.{IsRowEdit}
 use Rattle.bz_attribute.specs.Rules.{first_named, is_named, is_text, only_text, value}
 use Rattle.bz_attribute.specs.declared.edit.Edit.{Edit}

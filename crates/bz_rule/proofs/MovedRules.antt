@@ -7,17 +7,19 @@ use Rattle.bz_tree.specs.Rows.{RowPart, parts_of, segs_parts}
 use Rattle.bz_tree.specs.Tree.{Item, Segment, Statement, segs_of}
 use Rattle.bz_label.specs.Labels.{Package}
 use Rattle.bz_label.specs.declared.arguments.Chosen.{Chosen}
-use Rattle.bz_attribute.specs.Effects.{done, edit_first, filtered, is_chosen, no_list_note, with_args}
+use Rattle.bz_attribute.specs.Effects.{edit_first, filtered, is_chosen, no_list_note, with_args}
+use Rattle.bz_attribute.specs.Reports.{done}
 use Rattle.bz_attribute.specs.Elements.{AreLists, elements_left}
-use Rattle.bz_attribute.specs.Lists.{may_be_in_sum, is_plus, parts, with_value}
-use Rattle.bz_attribute.specs.ListWalk.{edit_first_part, edit_list, edit_one_from, is_part, parts_from}
+use Rattle.bz_attribute.specs.Lists.{may_be_in_sum, parts, with_value}
+use Rattle.bz_attribute.specs.ListWalk.{is_plus, edit_first_part, edit_list, edit_one_from, is_part, parts_from, elements}
 use Rattle.bz_attribute.proofs.ListPieces.{edit_first_part_is, parts_are}
-use Rattle.bz_rule.specs.Move.{arrivals, elements_of, move, move_note, moves, put_in}
+use Rattle.bz_rule.specs.Move.{arrivals, elements_of, move, move_note, put_in}
+use Rattle.bz_rule.specs.Reports.{moves}
 use Rattle.bz_rule.specs.private.Steps.{moved}
 use Rattle.bz_rule.proofs.Moves.{move_is}
 use Rattle.bz_attribute.specs.RowEdits.{IsRowEdit, replaced_at}
 use Rattle.bz_attribute.specs.RowPlaces.{IsRuleRow}
-use Rattle.bz_attribute.specs.Rules.{Rule, elements, first_named, is_named, value}
+use Rattle.bz_attribute.specs.Rules.{Rule, first_named, is_named, value}
 use Rattle.bz_attribute.specs.declared.done.Done.{Done}
 use Rattle.bz_attribute.specs.declared.done.Note.{Note}
 use Rattle.bz_attribute.specs.declared.done.Note.TheVariants.{NoAttribute, NotAList}

@@ -7,9 +7,11 @@ use Rattle.bz_label.specs.Labels.{Package}
 use Rattle.bz_label.specs.declared.arguments.Chosen.{Chosen}
 use Rattle.bz_attribute.specs.Rules.{first_named, value}
 use Rattle.bz_attribute.specs.Lists.{parts}
-use Rattle.bz_attribute.specs.Effects.{chooses, is_chosen}
+use Rattle.bz_attribute.specs.Effects.{is_chosen}
+use Rattle.bz_attribute.specs.Reports.{chooses}
 use Rattle.bz_attribute.proofs.LabelSets.{any_joined}
-use Rattle.bz_rule.specs.Move.{elements_of, move, move_note, moves}
+use Rattle.bz_rule.specs.Move.{elements_of, move, move_note}
+use Rattle.bz_rule.specs.Reports.{moves}
 use Rattle.bz_rule.specs.private.Steps.{moved, moved_where}
 
 any_left : (p : Segment → Bool) (ss : List Segment) → list_any p ss ≡ not (is_empty (filter p ss))

@@ -3,8 +3,7 @@ use Rattle.std.proofs.Common.{◌≡◌, ℕ, List, [], ◌∷◌, ◌++◌, tru
 use Rattle.std.specs.List.{list_all}
 use Rattle.std.specs.Option.{option_or}
 use Rattle.std.proofs.lemmas.Bool.{and_parts}
-use Rattle.bz_token.specs.Common.{map_or}
-use Rattle.bz_token.specs.Lexical.{is_one_of}
+use Rattle.bz_token.specs.Common.{map_or, is_one_of}
 use Rattle.bz_tree.specs.Tree.{Segment, Statement}
 use Rattle.bz_label.specs.Labels.{Package}
 use Rattle.bz_label.specs.declared.arguments.Attributes.TheVariants.{Named}
@@ -14,10 +13,12 @@ use Rattle.bz_label.specs.declared.arguments.Setting.TheVariants.{ToKind, ToValu
 use Rattle.bz_attribute.specs.Rules.{first_named, is_named, value}
 use Rattle.bz_attribute.specs.Lists.{with_value}
 use Rattle.bz_attribute.specs.ListWalk.{edit_first_part}
-use Rattle.bz_attribute.specs.Effects.{argument, chooses, done, edit_first, filtered, is_chosen, list_item, no_list_note, slot_done, unchosen, with_args}
+use Rattle.bz_attribute.specs.Effects.{argument, edit_first, filtered, is_chosen, list_item, no_list_note, unchosen, with_args}
+use Rattle.bz_attribute.specs.Reports.{chooses, done, slot_done}
 use Rattle.bz_attribute.specs.declared.done.Note.{Note}
 use Rattle.bz_attribute.specs.declared.done.Note.TheVariants.{AttributeExists, NoAttribute}
-use Rattle.bz_rule.specs.Move.{arrivals, elements_of, move_note, moves, put_in}
+use Rattle.bz_rule.specs.Move.{arrivals, elements_of, move_note, put_in}
+use Rattle.bz_rule.specs.Reports.{moves}
 use Rattle.bz_rule.specs.Rename.{rename_note, rename_to}
 use Rattle.bz_rule.specs.Commands.{Command, after, args_after, args_done, done_of}
 use Rattle.bz_rule.specs.Sealed.{NotSeen, SlotsSealed, attributes_of, both_empty, both_rules}

@@ -3,9 +3,8 @@ use Rattle.std.proofs.Common.{◌≡◌, List, [], ◌∷◌, ◌++◌, Bool, tr
 use Rattle.std.specs.List.{list_all}
 use Rattle.bz_tree.specs.declared.tree.GroupKind.TheVariants.{Call, RuleCall, Load, Paren, List as ListKind, Index, Dict, ListComp, DictComp}
 use Rattle.bz_tree.specs.Tree.{Item, leaf, group, Segs, Segment, segs_of, segments}
-use Rattle.bz_attribute.specs.Rules.{elements}
-use Rattle.bz_attribute.specs.Lists.{edit_parts, may_be_in_sum, is_plus, parts}
-use Rattle.bz_attribute.specs.ListWalk.{is_list, edit_list, edit_from, edit_one_from, edit_first_part, ends, is_part, parts_from}
+use Rattle.bz_attribute.specs.ListWalk.{elements, is_list, edit_list, edit_from, edit_one_from, edit_first_part, ends, is_part, parts_from, is_plus}
+use Rattle.bz_attribute.specs.Lists.{edit_parts, may_be_in_sum, parts}
 use Rattle.bz_attribute.proofs.ListPieces.{edit_first_part_is, edit_parts_are, parts_are, walked_parts}
 use Rattle.bz_attribute.proofs.Views.{segments_of}
 use Rattle.bz_tree.proofs.Rows.FromParts.{segs_back}

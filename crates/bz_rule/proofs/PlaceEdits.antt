@@ -4,7 +4,8 @@ use Rattle.std.specs.Prelude.{option_to_list}
 use Rattle.std.specs.List.{flat_map, list_any}
 use Rattle.bz_tree.specs.Tree.{Segment, Statement, segs_of}
 use Rattle.bz_tree.specs.Rows.{RowPart, segs_parts}
-use Rattle.bz_attribute.specs.Effects.{done, edit_first, filtered}
+use Rattle.bz_attribute.specs.Effects.{edit_first, filtered}
+use Rattle.bz_attribute.specs.Reports.{done}
 use Rattle.bz_attribute.specs.RowEdits.{IsRowEdit, replaced_at}
 use Rattle.bz_attribute.specs.RowPlaces.{alone, IsPlaceOf, IsPlaceOfAll, IsRuleRow}
 use Rattle.bz_attribute.specs.Rules.{Rule, first_named, is_named, is_text, name_of}

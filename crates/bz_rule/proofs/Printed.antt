@@ -30,12 +30,6 @@ pub next_word : {X : Type 0} (f : X → List ℕ) (xs : List X) (x : X) (i : ℕ
 next_word f xs x i old mid new space h is before pushed =
     rw (pushed, before, drop-cons xs i x, ← is, add-one, append_assoc, append_assoc) refl
 
--- the like where the list has views
-pub next_viewed : {X Y : Type 0} (f : Y → List ℕ) (g : X → Y) (xs : List X) (x : X) (i : ℕ) (old mid new space : List ℕ) → i < length xs → x ≡ get_or xs i x → mid ≡ old ++ space → new ≡ mid ++ f (g x)
-    → new ++ spaced_from (32 ∷ []) (map f (map g (drop (i + 1) xs))) ≡ old ++ spaced_from space (map f (map g (drop i xs)))
-next_viewed f g xs x i old mid new space h is before pushed =
-    rw (pushed, before, drop-cons xs i x, ← is, add-one, append_assoc, append_assoc) refl
-
 -- the note of the first field, and else that of the others
 note_first : (home : Package) (s : Statement) (r : Rule) (field : Field) (fields : List Field)
     → option_or (missing home s r (field ∷ [])) (missing home s r fields) ≡ missing home s r (field ∷ fields)

@@ -13,9 +13,10 @@ use Rattle.bz_attribute.specs.declared.head.Head.{Head}
 use Rattle.bz_attribute.specs.declared.done.Done.{Done}
 use Rattle.bz_attribute.specs.declared.done.Note.{Note}
 use Rattle.bz_attribute.specs.declared.done.Note.TheVariants.{Missing}
-use Rattle.bz_rule.specs.Print.{field_name, fields_of, line_of, other_text, prints, value_text, word_form, printed}
+use Rattle.bz_rule.specs.Print.{field_name, fields_of, line_of, other_text, value_text, word_form}
+use Rattle.bz_rule.specs.Reports.{prints, printed}
 use Rattle.bz_rule.specs.private.PrintSteps.{HasPrinted, IsRuleOf}
-use Rattle.bz_attribute.specs.Effects.{done}
+use Rattle.bz_attribute.specs.Reports.{done}
 use Rattle.bz_token.specs.Common.{map_or}
 
 same_rule : (o : Option Rule) (x y : Rule) → o ≡ Some x → o ≡ Some y → x ≡ y

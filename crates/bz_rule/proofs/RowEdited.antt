@@ -11,7 +11,8 @@ use Rattle.bz_label.specs.declared.arguments.Commented.TheVariants.{Rule as Abov
 use Rattle.bz_label.specs.declared.arguments.Setting.TheVariants.{ToKind}
 use Rattle.bz_rule.specs.Comment.{comment_line, comment_rule}
 use Rattle.bz_attribute.specs.Rules.{Rule, rule_of, kind_text}
-use Rattle.bz_attribute.specs.Effects.{done, holds_rule, nodes_of, with_args}
+use Rattle.bz_attribute.specs.Effects.{holds_rule, nodes_of, with_args}
+use Rattle.bz_attribute.specs.Reports.{done}
 use Rattle.bz_rule.specs.Set.{kind_items, with_kind}
 use Rattle.bz_rule.specs.private.Steps.{kind_after}
 use Rattle.bz_rule.specs.Commands.{Command, after, args_after, args_done, done_of}

@@ -4,7 +4,8 @@ use Rattle.std.proofs.lemmas.List.{drop_more}
 use Rattle.bz_tree.specs.Tree.{Item, Segment}
 use Rattle.bz_tree.specs.Rows.{RowPart}
 use Rattle.bz_attribute.specs.Elements.{IsElementOf, IsOnlyList, ListRest, rest_parts}
-use Rattle.bz_attribute.specs.Rules.{elements, is_text, string_value}
+use Rattle.bz_attribute.specs.Rules.{is_text, string_value}
+use Rattle.bz_attribute.specs.ListWalk.{elements}
 use Rattle.bz_rule.specs.Set as spec
 use Rattle.bz_rule.specs.private.Steps.{are_strings}
 use Rattle.bz_attribute.proofs.Views.{segments_of}

@@ -4,14 +4,13 @@ use Rattle.std.specs.Prelude.{bytes_eq}
 use Rattle.std.specs.List.{list_any}
 use Rattle.std.proofs.lemmas.Bool.{cases_Bool, or_parts}
 use Rattle.std.proofs.lemmas.Slice.Eq.{bytes_eq-Decides}
-use Rattle.bz_token.specs.Lexical.{is_one_of}
 use Rattle.bz_tree.specs.Tree.{Segment}
 use Rattle.bz_attribute.specs.Rules.{first_named, is_named}
 use Rattle.bz_attribute.specs.Effects.{edit_first, has}
 use Rattle.bz_attribute.proofs.Locals.{has_first}
 use Rattle.bz_attribute.specs.RowPlaces.{IsLocal, LooksAt}
 use Rattle.bz_rule.specs.Sealed.{AreSealed, all_done, is_among, same, sealed}
-use Rattle.bz_token.specs.Common.{map_or}
+use Rattle.bz_token.specs.Common.{map_or, is_one_of}
 
 -- what passes the test is no sealed argument
 pub record Misses (names : List (List ℕ)) (p : Segment → Bool) : Type 0 where

@@ -4,8 +4,7 @@ use Rattle.std.specs.Prelude.{bytes_eq, option_and_then, unwrap_or}
 use Rattle.std.specs.List.{flat_map, join_with_byte, list_all}
 use Rattle.std.proofs.lemmas.Bool.{and_parts}
 use Rattle.std.proofs.lemmas.List.Folds.{list_all-append}
-use Rattle.bz_token.specs.Common.{map_or}
-use Rattle.bz_token.specs.Lexical.{is_one_of}
+use Rattle.bz_token.specs.Common.{map_or, is_one_of}
 use Rattle.bz_tree.specs.Tree.{Item, Segment, Statement}
 use Rattle.bz_label.specs.Labels.{All, Kind as OfKind, Line, Name, Package, Pkg, Target}
 use Rattle.bz_rule.specs.declared.commands.field.Field.{Field}
@@ -13,14 +12,16 @@ use Rattle.bz_rule.specs.declared.commands.field.Field.TheVariants.{Label, Value
 use Rattle.bz_attribute.specs.Rules.{Rule, is_text, kind_text, name_in, rule_of, string_value, value}
 use Rattle.bz_attribute.specs.Texts.{home_text}
 use Rattle.bz_attribute.specs.Marks.{marks, marks_rule}
-use Rattle.bz_attribute.specs.Effects.{done, holds_rule, nodes_of, slot_done, with_args}
+use Rattle.bz_attribute.specs.Effects.{holds_rule, nodes_of, with_args}
+use Rattle.bz_attribute.specs.Reports.{done, slot_done}
 use Rattle.bz_attribute.specs.private.RuleNodes.{nodes_after}
 use Rattle.bz_attribute.specs.declared.done.Done.{Done}
 use Rattle.bz_attribute.specs.declared.done.Note.TheVariants.{Missing}
 use Rattle.bz_attribute.proofs.EditedRules.{nodes_read, rule_after, rule_with}
 use Rattle.bz_rule.specs.Comment.{comment_line, comment_rule}
-use Rattle.bz_rule.specs.Print.{field_name, field_text, fields_of, missing, printed, prints, value_text}
-use Rattle.bz_rule.specs.Set.{kind_items, sets_kind_of, with_kind}
+use Rattle.bz_rule.specs.Print.{field_name, field_text, fields_of, missing, value_text}
+use Rattle.bz_rule.specs.Reports.{printed, prints, sets_kind_of}
+use Rattle.bz_rule.specs.Set.{kind_items, with_kind}
 use Rattle.bz_rule.specs.private.Steps.{kind_after}
 use Rattle.bz_rule.specs.Sealed.{AreShownAlike, IsSealed, SlotsSealed, attributes_printed, both_empty, both_rules}
 use Rattle.bz_rule.proofs.RuleClass.{kind_dotted}

@@ -3,13 +3,15 @@ use Rattle.std.proofs.Common.{◌≡◌, ℕ, List, [], ◌∷◌, ◌++◌, Boo
 use Rattle.std.specs.Prelude.{option_to_list}
 use Rattle.bz_tree.specs.Tree.{Item, Segment, Statement, items_of, segs_of}
 use Rattle.bz_tree.specs.Rows.{RowPart, items_parts, parts_of, segment_end, segs_parts}
-use Rattle.bz_attribute.specs.Effects.{argument, done, edit_first, has, with_args}
+use Rattle.bz_attribute.specs.Effects.{argument, edit_first, has, with_args}
+use Rattle.bz_attribute.specs.Reports.{done}
 use Rattle.bz_attribute.specs.Elements.{IsValueAt, OnlyList}
 use Rattle.bz_attribute.specs.Lists.{with_value, only_list}
 use Rattle.bz_attribute.specs.RowEdits.{replaced_at}
 use Rattle.bz_attribute.specs.RowPlaces.{IsLocal, IsPlaceOf, IsRuleRow, alone}
 use Rattle.bz_attribute.specs.Rules.{Rule, first_named, is_named, rule_of, value}
-use Rattle.bz_rule.specs.Set.{New, is_value, new_of, new_value, set, set_if_absent, set_in, sets}
+use Rattle.bz_rule.specs.Set.{New, is_value, new_of, new_value, set, set_if_absent, set_in}
+use Rattle.bz_rule.specs.Reports.{sets}
 use Rattle.bz_attribute.specs.declared.place.Place.{Place}
 use Rattle.bz_attribute.proofs.EditedAt.{none_first, with_args_at}
 use Rattle.bz_attribute.proofs.Locals.{edits_one, is_there, kept_first}

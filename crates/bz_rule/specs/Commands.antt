@@ -23,15 +23,17 @@ use Rattle.bz_label.specs.Words.{words_of}
 use Rattle.bz_tree.specs.Tree.{Segment, Statement}
 use Rattle.bz_label.specs.Labels.{Package}
 use Rattle.bz_attribute.specs.Rules.{Rule, first_named, rule_of}
-use Rattle.bz_attribute.specs.Effects.{has, done, absent_note, no_list_note, with_args, slot_done, holds_rule}
-use Rattle.bz_rule.specs.Add.{add, adds}
-use Rattle.bz_rule.specs.Remove.{remove, removes}
+use Rattle.bz_attribute.specs.Effects.{has, absent_note, with_args, holds_rule}
+use Rattle.bz_attribute.specs.Reports.{done, slot_done}
+use Rattle.bz_rule.specs.Add.{add, add_note}
+use Rattle.bz_rule.specs.Reports.{adds, removes, sets, sets_kind_of, moves, replaces, is_on_args, prints}
+use Rattle.bz_rule.specs.Remove.{remove}
 use Rattle.bz_rule.specs.Rename.{rename, rename_note}
-use Rattle.bz_rule.specs.Set.{set, sets, set_if_absent, with_kind, sets_kind_of}
-use Rattle.bz_rule.specs.Move.{move, moves, move_note}
-use Rattle.bz_rule.specs.Replace.{replace, replaces}
-use Rattle.bz_rule.specs.Comment.{comment_rule, comment_attribute, comment_value, comment_note, is_on_args}
-use Rattle.bz_rule.specs.Print.{fields_of, line_of, missing, prints, field_of, is_field, is_named_field, print_mentions}
+use Rattle.bz_rule.specs.Set.{set, set_if_absent, with_kind}
+use Rattle.bz_rule.specs.Move.{move, move_note}
+use Rattle.bz_rule.specs.Replace.{replace}
+use Rattle.bz_rule.specs.Comment.{comment_rule, comment_attribute, comment_value, comment_note}
+use Rattle.bz_rule.specs.Print.{fields_of, line_of, missing, field_of, is_field, is_named_field, print_mentions}
 use Rattle.bz_attribute.specs.declared.done.Done.{Done}
 use Rattle.bz_attribute.specs.declared.done.Note.{Note}
 use Rattle.bz_label.specs.Arguments.{breaks_line, are_attributes, is_setting, is_moved, is_commented, attributes_pass, setting_passes, moved_passes, commented_passes, attributes_mention, setting_mentions, comment_mentions}
@@ -190,9 +192,10 @@ args_after (Comment (Attribute attr) text) home args = comment_attribute attr te
 args_after (Comment (Value attr value) text) home args = comment_value home attr value text args
 args_after _ home args = args
 
--- why a command on arguments does nothing to them
+-- Why a command on arguments does nothing to them: the notes of the commands. Each command asks for its own, and
+-- leaves the arguments where there is one (`comment_attribute` where no argument has the name).
 abbrev pub args_note : Command → Package → List Segment → Option Note
-args_note (Add attr values) home args = no_list_note attr (first_named attr args)
+args_note (Add attr values) home args = add_note attr args
 args_note (Rename old new) home args = rename_note old new args
 args_note (Move old new chosen) home args = move_note old new args
 args_note (Comment (Attribute attr) text) home args = absent_note attr args

@@ -1,11 +1,9 @@
 -- What `comment` does (buildozer README, edit commands; where the line stands is this project's own rule).
 -- Begin with `comment_rule`, `comment_attribute` and `comment_value`.
-use Rattle.std.specs.Prelude.{ℕ, ◌==◌, List, [], ◌∷◌, ◌++◌, Bool, true, false, ◌||◌, if◌then◌else◌, Option, Some, None, is_some, option_and_then}
+use Rattle.std.specs.Prelude.{ℕ, ◌==◌, List, [], ◌∷◌, ◌++◌, Bool, ◌||◌, if◌then◌else◌, Option, Some, None, is_some, option_and_then}
 use Rattle.std.specs.List.{list_any, list_all}
 use Rattle.bz_tree.specs.Tree.{Segment, Statement}
 use Rattle.bz_label.specs.Labels.{Package}
-use Rattle.bz_label.specs.declared.arguments.Commented.{Commented}
-use Rattle.bz_label.specs.declared.arguments.Commented.TheVariants.{Rule as OfRule, Attribute, Value}
 use Rattle.bz_attribute.specs.Rules.{rule_of, is_named, first_named, value}
 use Rattle.bz_attribute.specs.Lists.{with_value, parts, equals}
 use Rattle.bz_attribute.specs.Effects.{edit_first, absent_note, no_list_note, edit_part, with_comment}
@@ -58,8 +56,3 @@ comment_note home attr v args = option_or (absent_note attr args) (option_or
 abbrev pub comment_value : Package → List ℕ → List ℕ → List ℕ → List Segment → List Segment
 comment_value home attr v text args = if is_some (comment_note home attr v args) then args
     else edit_first (is_named attr) (λ a. comment_element home v text a ∷ []) args
-
--- whether it is a comment of an argument
-abbrev pub is_on_args : Commented → Bool
-is_on_args OfRule = false
-is_on_args _ = true

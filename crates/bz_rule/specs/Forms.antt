@@ -6,7 +6,7 @@ use Rattle.bz_label.specs.declared.arguments.Commented.TheVariants.{Attribute, V
 use Rattle.bz_label.specs.declared.arguments.Chosen.TheVariants as moved
 use Rattle.bz_label.specs.declared.arguments.Setting.TheVariants.{ToValues}
 use Rattle.bz_rule.specs.declared.command.Action.TheVariants.{Add, Remove, Rename, Set, SetIfAbsent, Move, Replace, Comment}
-use Rattle.bz_rule.specs.declared.forms.NewArgument.{NewArgument}
+use Rattle.bz_rule.specs.declared.forms.AttributeValues.{AttributeValues}
 use Rattle.bz_rule.specs.declared.forms.Values.{Values}
 use Rattle.bz_rule.specs.declared.forms.Values.TheVariants as values
 use Rattle.bz_rule.specs.Commands.{Command}
@@ -53,5 +53,5 @@ set_by (Set (ToValues attr words)) = Some (record { attr = attr; words = words }
 set_by (SetIfAbsent attr words) = Some (record { attr = attr; words = words })
 set_by _ = None
 
-abbrev pub new_of : NewArgument → NewSetting
+abbrev pub new_of : AttributeValues → NewSetting
 new_of new = record { attr = new.attr.now; words = new.values.now }

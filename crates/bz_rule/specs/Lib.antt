@@ -1,4 +1,5 @@
 pub mod Add
+pub mod AddByValue
 pub mod Argument
 pub mod Commands
 pub mod Forms
@@ -10,6 +11,7 @@ pub mod Print
 pub mod Remove
 pub mod Rename
 pub mod Replace
+pub mod Reports
 pub mod RowViews
 pub mod Sealed
 pub mod Set

@@ -1,14 +1,14 @@
 -- What `move` does (buildozer README, edit commands; the failures and what becomes of repeats are this
 -- project's own rule).
 -- Begin with `move`.
-use Rattle.std.specs.Prelude.{ℕ, List, [], ◌∷◌, ◌++◌, Bool, true, false, ◌||◌, if◌then◌else◌, Option, is_some, filter}
+use Rattle.std.specs.Prelude.{ℕ, List, [], ◌∷◌, ◌++◌, true, false, ◌||◌, if◌then◌else◌, Option, is_some, filter}
 use Rattle.std.specs.List.{list_any, flat_map}
 use Rattle.bz_tree.specs.Tree.{Segment}
 use Rattle.bz_label.specs.Labels.{Package}
 use Rattle.bz_label.specs.declared.arguments.Chosen.{Chosen}
 use Rattle.bz_attribute.specs.Rules.{is_named, first_named, value, string_value}
 use Rattle.bz_attribute.specs.Lists.{with_value, parts, equals}
-use Rattle.bz_attribute.specs.Effects.{has, edit_first, edit_part, argument, list_item, filtered, unchosen, is_chosen, no_list_note, absent_note, chooses}
+use Rattle.bz_attribute.specs.Effects.{has, edit_first, edit_part, argument, list_item, filtered, unchosen, is_chosen, no_list_note, absent_note}
 use Rattle.bz_attribute.specs.declared.done.Note.{Note}
 use Rattle.bz_token.specs.Common.{is_empty, map_or}
 use Rattle.std.specs.Option.{option_or}
@@ -46,7 +46,3 @@ move home old new chosen args =
     if is_some (move_note old new args) || is_empty leaving then args
     else put_in new (arrivals home (elements_of (first_named new args)) leaving)
     (edit_first (is_named old) (filtered (unchosen home chosen)) args)
-
--- whether it changes something, where it notes nothing
-abbrev pub moves : Package → List ℕ → Chosen → List Segment → Bool
-moves home old chosen args = map_or false (chooses home chosen) (first_named old args)

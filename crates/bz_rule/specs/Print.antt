@@ -1,6 +1,5 @@
 -- What `print` prints of a rule (buildozer README, print; how a value is shown is this project's own rule).
 -- Begin with `line_of` and `missing`.
--- Of later stops: 6 `flat_text`.
 use Rattle.std.specs.Prelude.{ℕ, ◌==◌, List, [], ◌∷◌, ◌++◌, Bool, false, true, ◌&&◌, ◌||◌, not, if◌then◌else◌, Option, Some, None, option_map, map, is_some, bytes_eq, codes, nat_le}
 use Rattle.std.specs.List.{list_any, list_all, join_with_byte}
 use Rattle.std.specs.Fmt.{decimal}
@@ -12,14 +11,12 @@ use Rattle.bz_label.specs.Names.{is_identifier}
 use Rattle.bz_label.specs.Values.{quoted}
 use Rattle.bz_rule.specs.declared.commands.field.Field.{Field}
 use Rattle.bz_rule.specs.declared.commands.field.Field.TheVariants.{Label, Kind, StartLine, EndLine, ValueOf}
-use Rattle.bz_attribute.specs.Rules.{Rule, rule_of, kind_text, name_in, first_named, value, string_value}
+use Rattle.bz_attribute.specs.Rules.{Rule, kind_text, name_in, first_named, value, string_value}
 use Rattle.bz_attribute.specs.Lists.{only_list}
 use Rattle.bz_attribute.specs.Texts.{home_text}
-use Rattle.bz_attribute.specs.Effects.{done}
-use Rattle.bz_attribute.specs.declared.done.Done.{Done}
 use Rattle.bz_attribute.specs.declared.done.Note.{Note}
 use Rattle.bz_attribute.specs.declared.done.Note.TheVariants.{Missing}
-use Rattle.bz_token.specs.Common.{map_or, is_empty}
+use Rattle.bz_token.specs.Common.{is_empty, is_one_of, map_or}
 
 -- not empty, and with no quote, no space and no byte below it
 abbrev pub is_plain : List ℕ → Bool
@@ -77,26 +74,11 @@ module _ (home : Package) (s : Statement) (r : Rule) where
   missing [] = None
   missing (f ∷ fields) = if is_some (field_text f) then missing fields else Some (Missing (field_name f))
 
--- the name alone determines what is printed
-abbrev pub is_name_alone : List Field → Bool
-is_name_alone (Label ∷ []) = true
-is_name_alone (ValueOf attr ∷ []) = bytes_eq attr (codes "name")
-is_name_alone _ = false
-
--- what `print` reports of a rule
-abbrev pub printed : Package → Statement → Rule → List Field → Done
-printed home s r fields = record { changed = false; line = Some (line_of home s r fields); note = missing home s r fields }
-
--- `print <field>..`
-abbrev pub prints : Package → List Field → Option Statement → Done
-prints home fields None = done None false
-prints home fields (Some s) = map_or (done None false) (λ r. printed home s r (fields_of fields)) (rule_of s.nodes)
-
 -- how the words of the command are read, and which attributes it mentions
 
 -- the fields that buildozer has and this program leaves out
 abbrev pub is_left_out_field : List ℕ → Bool
-is_left_out_field word = list_any (bytes_eq word) (codes "rule" ∷ codes "attrs" ∷ codes "path" ∷ [])
+is_left_out_field word = is_one_of (codes "rule" ∷ codes "attrs" ∷ codes "path" ∷ []) word
 
 abbrev pub is_field : List ℕ → Bool
 is_field word = is_identifier word && not (is_left_out_field word)
@@ -117,7 +99,7 @@ abbrev pub field_mentions : List ℕ → Field → Bool
 field_mentions name (ValueOf attr) = bytes_eq attr name
 field_mentions name _ = false
 
--- without fields the name is printed
+-- whether `print` of these fields mentions the attribute; without fields it mentions `name` (`fields_of`)
 abbrev pub print_mentions : List ℕ → List Field → Bool
 print_mentions name [] = bytes_eq name (codes "name")
 print_mentions name (field ∷ fields) = list_any (field_mentions name) (field ∷ fields)

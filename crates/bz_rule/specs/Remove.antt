@@ -1,16 +1,15 @@
 -- What `remove` does (buildozer README, edit commands).
 -- Begin with `remove`.
-use Rattle.std.specs.Prelude.{ℕ, List, [], ◌∷◌, Bool, ◌&&◌, not, if◌then◌else◌, filter, codes, false}
-use Rattle.std.specs.List.{list_any, flat_map}
+use Rattle.std.specs.Prelude.{ℕ, List, [], ◌∷◌, Bool, ◌&&◌, not, if◌then◌else◌, filter, codes}
+use Rattle.std.specs.List.{flat_map}
 use Rattle.bz_tree.specs.Tree.{Segment}
 use Rattle.bz_label.specs.Labels.{Package}
 use Rattle.bz_label.specs.declared.arguments.Attributes.{Attributes}
 use Rattle.bz_label.specs.declared.arguments.Attributes.TheVariants.{Every, Named}
 use Rattle.bz_label.specs.declared.arguments.Chosen.TheVariants.{Values}
-use Rattle.bz_attribute.specs.Rules.{is_named, first_named}
+use Rattle.bz_attribute.specs.Rules.{is_named}
 use Rattle.bz_attribute.specs.Lists.{is_attribute}
-use Rattle.bz_attribute.specs.Effects.{has, edit_first, unchosen, chooses, filtered}
-use Rattle.bz_token.specs.Common.{map_or}
+use Rattle.bz_attribute.specs.Effects.{edit_first, unchosen, filtered}
 
 -- an argument that goes with `remove *`: a keyword argument, but not `name`
 abbrev pub goes_with_all : Segment → Bool
@@ -25,10 +24,3 @@ remove home Every values args =
     flat_map (λ a. if is_attribute a then filtered (unchosen home (Values values)) a else a ∷ []) args
 remove home (Named attr) values args =
     edit_first (is_named attr) (filtered (unchosen home (Values values))) args
-
--- whether it changes something
-abbrev pub removes : Package → Attributes → List (List ℕ) → List Segment → Bool
-removes home Every [] args = list_any goes_with_all args
-removes home Every (v ∷ values) args = list_any (λ a. is_attribute a && chooses home (Values (v ∷ values)) a) args
-removes home (Named attr) [] args = has attr args
-removes home (Named attr) (v ∷ values) args = map_or false (chooses home (Values (v ∷ values))) (first_named attr args)

@@ -1,15 +1,13 @@
 -- What `replace` does (buildozer README, edit commands).
 -- Begin with `replace`.
-use Rattle.std.specs.Prelude.{ℕ, List, [], ◌∷◌, Bool, false, ◌&&◌, not, if◌then◌else◌, map}
-use Rattle.std.specs.List.{list_any}
+use Rattle.std.specs.Prelude.{ℕ, List, [], ◌∷◌, Bool, ◌&&◌, not, if◌then◌else◌, map}
 use Rattle.bz_tree.specs.Tree.{Segment}
 use Rattle.bz_label.specs.Labels.{Package}
 use Rattle.bz_label.specs.declared.arguments.Attributes.{Attributes}
 use Rattle.bz_label.specs.declared.arguments.Attributes.TheVariants.{Every, Named}
-use Rattle.bz_attribute.specs.Rules.{is_named, is_text, first_named, value, string_value}
-use Rattle.bz_attribute.specs.Lists.{is_attribute, with_value, parts, edit_parts, equals}
+use Rattle.bz_attribute.specs.Rules.{is_named, is_text, value, string_value}
+use Rattle.bz_attribute.specs.Lists.{is_attribute, with_value, edit_parts, equals}
 use Rattle.bz_attribute.specs.Effects.{edit_first, string_item}
-use Rattle.bz_token.specs.Common.{map_or}
 
 -- an element that equals `old` and is not exactly `new`
 abbrev pub is_replaced : Package → List ℕ → List ℕ → Segment → Bool
@@ -28,11 +26,3 @@ abbrev pub replace : Package → Attributes → List ℕ → List ℕ → List S
 replace home (Named attr) old new args =
     edit_first (is_named attr) (λ a. replaced_in home old new a ∷ []) args
 replace home Every old new args = map (λ a. if is_attribute a then replaced_in home old new a else a) args
-
--- whether it changes something
-abbrev pub replaces_in : Package → List ℕ → List ℕ → Segment → Bool
-replaces_in home old new a = list_any (list_any (is_replaced home old new)) (parts (value a))
-
-abbrev pub replaces : Package → Attributes → List ℕ → List ℕ → List Segment → Bool
-replaces home (Named attr) old new args = map_or false (replaces_in home old new) (first_named attr args)
-replaces home Every old new args = list_any (λ a. is_attribute a && replaces_in home old new a) args

@@ -1,15 +1,14 @@
 -- What `set` and `set_if_absent` do (buildozer README, edit commands; what a word stands for is this
 -- project's own rule).
 -- Begin with `set`, `set_if_absent` and `with_kind`.
-use Rattle.std.specs.Prelude.{ℕ, ◌==◌, List, [], ◌∷◌, ◌++◌, Bool, true, false, ◌&&◌, ◌||◌, not, if◌then◌else◌, Option, Some, None, is_some, map, codes, bytes_eq}
-use Rattle.std.specs.List.{join_by, list_any, list_all, slice_split}
+use Rattle.std.specs.Prelude.{ℕ, ◌==◌, List, [], ◌∷◌, ◌++◌, Bool, false, ◌&&◌, ◌||◌, not, if◌then◌else◌, Option, None, is_some, map, codes, bytes_eq}
+use Rattle.std.specs.List.{join_by, list_all, slice_split}
 use Rattle.bz_token.specs.declared.token.Kind.TheVariants.{Identifier, Integer, Operator}
 use Rattle.bz_tree.specs.Tree.{Item, leaf, Segment, Statement}
-use Rattle.bz_attribute.specs.Rules.{Rule, rule_of, kind_text, is_named, is_text, first_named, value, string_value}
+use Rattle.bz_attribute.specs.Rules.{rule_of, kind_text, is_named, is_text, first_named, value, string_value}
 use Rattle.bz_attribute.specs.Lists.{only_list, with_value}
-use Rattle.bz_attribute.specs.Effects.{has, edit_first, argument, list_item, string, string_item, nodes_of, done}
-use Rattle.bz_attribute.specs.declared.done.Done.{Done}
-use Rattle.bz_token.specs.Common.{map_or}
+use Rattle.bz_attribute.specs.Effects.{has, edit_first, argument, list_item, string, string_item, nodes_of}
+use Rattle.bz_token.specs.Common.{is_one_of, map_or}
 use Rattle.std.specs.Char.{is_ascii_digit}
 use Rattle.std.specs.Cmp.Lexicographic.{pointwise}
 
@@ -19,7 +18,7 @@ list_attributes = slice_split (λ b. b == 32) (codes "srcs hdrs textual_hdrs dep
 
 -- an attribute is one of these
 abbrev pub is_list_attribute : List ℕ → Bool
-is_list_attribute attr = list_any (bytes_eq attr) list_attributes
+is_list_attribute attr = is_one_of list_attributes attr
 
 -- `0`, or digits that do not begin with 0
 abbrev pub is_number : List ℕ → Bool
@@ -28,7 +27,7 @@ is_number (b ∷ bs) = bytes_eq (b ∷ bs) (codes "0") || list_all is_ascii_digi
 
 -- `True`, `False` or `None`
 abbrev pub is_constant : List ℕ → Bool
-is_constant word = list_any (bytes_eq word) (codes "True" ∷ codes "False" ∷ codes "None" ∷ [])
+is_constant word = is_one_of (codes "True" ∷ codes "False" ∷ codes "None" ∷ []) word
 
 -- what an attribute is set to
 pub data New : Type 0 where
@@ -60,7 +59,8 @@ new_value (NewNumber digits) = leaf Integer digits ∷ []
 new_value (NewConstant name) = leaf Identifier name ∷ []
 new_value (NewStrings words) = list_item (map string words) ∷ []
 
--- A value is these nodes already: comments do not count, and strings are compared by their values.
+-- A value is these nodes already: comments do not count, and strings are compared by their values, in lists
+-- each with the one in its place (`pointwise`).
 abbrev pub is_value : New → List Item → Bool
 is_value (NewString word) nodes = is_text word (string_value nodes)
 is_value (NewNumber digits) (leaf Integer text ∷ []) = bytes_eq text digits
@@ -80,9 +80,6 @@ set attr words args =
     if has attr args then edit_first (is_named attr) (λ a. set_in new a ∷ []) args
     else args ++ argument attr (new_value new) ∷ []
 
-abbrev pub sets : List ℕ → List (List ℕ) → Option Segment → Bool
-sets attr words arg = map_or true (λ a. not (is_value (new_of attr words (Some a)) (value a))) arg
-
 -- `set_if_absent <attr> <v>..`
 abbrev pub set_if_absent : List ℕ → List (List ℕ) → List Segment → List Segment
 set_if_absent attr words args = if has attr args then args
@@ -99,8 +96,3 @@ with_kind k s = record s {
   nodes = map_or s.nodes (λ r. if bytes_eq (kind_text r.kind) k then s.nodes
       else nodes_of (record r { kind = kind_items k })) (rule_of s.nodes);
 }
-
--- what `set kind` tells of a slot
-abbrev pub sets_kind_of : List ℕ → Option Statement → Done
-sets_kind_of kind None = done None false
-sets_kind_of kind (Some s) = map_or (done None false) (λ r. done None (not (bytes_eq (kind_text r.kind) kind))) (rule_of s.nodes)

@@ -156,7 +156,8 @@ pub(crate) fn read_named(
     name: &str,
     words: Vec<Text>,
 ) -> Result<Option<Action>, CommandFault>
-    ensures { result ≢ Err (CommandFault.OutOfMemory no_memory) → result ≡ spec.named_command name.now words.items }
+    ensures { result ≢ Err (CommandFault.OutOfMemory no_memory)
+        → result ≡ spec.named_command name.now words.items }
 {
     let action = match name {
         "add" => read_add(words),
@@ -298,7 +299,8 @@ pub(crate) fn edit_arguments<'a>(
 ) -> Result<Edit, NoMemory>
     requires { edits_arguments action.now ≡ true }
     ensures { IfOk result (IsRowEdit (spec.args_after action.now env.entry.home.now)
-        (spec.args_done action.now env.entry.home.now) (map part_view parts.now) (map part_view written.new.items)) }
+        (spec.args_done action.now env.entry.home.now) (map part_view parts.now)
+        (map part_view written.new.items)) }
 {
     match action {
         Action::Add(attr, values) => add(env, attr.as_str(), values.as_slice(), parts, written),

@@ -1,7 +1,8 @@
 //! The words of a command of a certain form, for crates that know a rule by its text alone: which attribute it looks
 //! at, and what it writes there.
 
-ghost use Rattle.std.specs.Prelude.{◌≡◌, [], ◌∷◌, IfSome, Some};
+ghost use Rattle.std.specs.Prelude.{◌≡◌, IfSome, Some, false};
+ghost use Rattle.bz_token.specs.Common.{is_empty};
 ghost use Rattle.bz_label.specs.declared.arguments.Attributes.TheVariants.{Named};
 ghost use Rattle.bz_label.specs.declared.arguments.Commented.TheVariants.{Attribute};
 ghost use Rattle.bz_rule.specs.declared.command.Action.TheVariants.{Add, Comment, Print, Remove, Rename, Replace};
@@ -11,18 +12,18 @@ use crate::command::{Action, Command};
 use crate::commands::field::Field;
 use bz_label::{Attributes, Commented, Setting, Text};
 
-/// A value, and the attribute whose list has it or not.
+/// Values, and the attribute whose list has them or not, or that they are set to.
 #[derive(Clone, Copy)]
-pub struct ListValue<'c> {
+pub struct AttributeValues<'c> {
     pub attr: &'c str,
-    pub value: &'c str,
+    pub values: &'c [Text],
 }
 
 /// A value, what it becomes, and the attribute whose list has it or not.
 #[derive(Clone, Copy)]
 pub struct ReplacedValue<'c> {
     pub attr: &'c str,
-    pub old: &'c str,
+    pub old: &'c Text,
     pub new: &'c str,
 }
 
@@ -38,13 +39,6 @@ pub struct RenamedAttribute<'c> {
 pub struct AttributeComment<'c> {
     pub attr: &'c str,
     pub text: &'c str,
-}
-
-/// An argument that `set` adds.
-#[derive(Clone, Copy)]
-pub struct NewArgument<'c> {
-    pub attr: &'c str,
-    pub values: &'c [Text],
 }
 
 /// The values that a command writes or looks for.
@@ -127,53 +121,48 @@ pub fn replaced_by(command: &Command) -> Option<ReplacedValue<'_>>
     };
     Some(ReplacedValue {
         attr: attr.as_str(),
-        old: old.as_str(),
+        old,
         new: new.as_str(),
     })
 }
 
-/// The one value that the command removes.
-pub fn removed_by(command: &Command) -> Option<ListValue<'_>>
-    ensures { IfSome result (λ old. command.now ≡ Remove (Named old.attr.now) (old.value.now ∷ [])) }
+/// The values that the command removes: one at least.
+pub fn removed_by(command: &Command) -> Option<AttributeValues<'_>>
+    ensures command { IfSome result (λ old. command.now ≡ Remove (Named old.attr.now) old.values.now) }
+    ensures some { IfSome result (λ old. is_empty old.values.now ≡ false) }
 {
     let Action::Remove(Attributes::Named(attr), values) = &command.action else {
         return None;
     };
-    let old = one_value(attr, values.as_slice())?;
-    Some(old)
+    let values @ [_, ..] = values.as_slice() else {
+        return None;
+    };
+    Some(AttributeValues {
+        attr: attr.as_str(),
+        values,
+    })
 }
 
-/// The one value that the command adds.
-pub fn added_by(command: &Command) -> Option<ListValue<'_>>
-    ensures { IfSome result (λ new. command.now ≡ Add new.attr.now (new.value.now ∷ [])) }
+/// The values that the command adds.
+pub fn added_by(command: &Command) -> Option<AttributeValues<'_>>
+    ensures { IfSome result (λ new. command.now ≡ Add new.attr.now new.values.now) }
 {
     let Action::Add(attr, values) = &command.action else {
         return None;
     };
-    let new = one_value(attr, values.as_slice())?;
-    Some(new)
-}
-
-/// The attribute, and the value where there is one alone.
-fn one_value<'c>(attr: &'c Text, values: &'c [Text]) -> Option<ListValue<'c>>
-    ensures { IfSome result (λ one. (one.attr.now ≡ attr.now) × (values.now ≡ one.value.now ∷ [])) }
-{
-    let [value] = values else {
-        return None;
-    };
-    Some(ListValue {
+    Some(AttributeValues {
         attr: attr.as_str(),
-        value: value.as_str(),
+        values: values.as_slice(),
     })
 }
 
 /// The argument that the command adds to a rule that has none of its name.
-pub fn set_by(command: &Command) -> Option<NewArgument<'_>>
+pub fn set_by(command: &Command) -> Option<AttributeValues<'_>>
     ensures { IfSome result (λ new. spec.set_by command.now ≡ Some (spec.new_of new)) }
 {
     match &command.action {
         Action::Set(Setting::ToValues(attr, values)) | Action::SetIfAbsent(attr, values) => {
-            Some(NewArgument {
+            Some(AttributeValues {
                 attr: attr.as_str(),
                 values: values.as_slice(),
             })

@@ -2,7 +2,7 @@
 
 ghost use Rattle.std.specs.Prelude.{◌≡◌, ℕ, Bool, List, Some, codes, true};
 ghost use Rattle.std.specs.List.{list_all};
-ghost use Rattle.bz_token.specs.Lexical.{is_one_of};
+ghost use Rattle.bz_token.specs.Common.{is_one_of};
 ghost use Rattle.bz_label.specs.Labels.{Package};
 ghost use Rattle.bz_tree.specs.Tree.{Segment, Statement};
 ghost use Rattle.bz_rule.specs.Commands.{Command};
@@ -13,13 +13,16 @@ ghost use Rattle.bz_rule.specs.Sealed.{AreShownAlike, IsSealed, NotSeen, attribu
 /// same, and leaves as many of them. That holds however what is sealed is like what it stands for, so each is left to
 /// stand for the same arguments.
 pub fn sealed_arguments_are_not_seen()
-    ensures { (like : List Segment → Segment → Bool) (names mentioned : List (List ℕ)) (c : Command) (home : Package)
+    ensures { (like : List Segment → Segment → Bool) (names mentioned : List (List ℕ)) (c : Command)
+        (home : Package)
         → attributes_of c ≡ Some mentioned → list_all (is_one_of names) mentioned ≡ true
         → NotSeen (λ run t. like run t ≡ true) names c home }
 {}
 
 /// Where `name` is one of the names, a target marks a rule with sealed arguments as the rule, and it is shown as that.
 pub fn sealed_rules_are_shown_alike()
-    ensures { (like : List Segment → Segment → Bool) (names : List (List ℕ)) → is_one_of names (codes "name") ≡ true
-        → (count : ℕ) (s t : Statement) → IsSealed (λ run t. like run t ≡ true) names count s t → AreShownAlike s t }
+    ensures { (like : List Segment → Segment → Bool) (names : List (List ℕ))
+        → is_one_of names (codes "name") ≡ true
+        → (count : ℕ) (s t : Statement) → IsSealed (λ run t. like run t ≡ true) names count s t
+        → AreShownAlike s t }
 {}

@@ -26,7 +26,8 @@ pub(crate) fn edit_rule<'a>(
     requires edits { is_edit command.now ≡ true }
     requires rule { is_some (rule_of stmt.now.nodes) ≡ true }
     ensures within { IfOk result (λ e. IsWithin e.place (parts_of stmt.now)) }
-    ensures edit { IfOk result (IsEditFor command.now env.entry.home.now stmt.now (map part_view new.new.items)) }
+    ensures edit { IfOk result (IsEditFor command.now env.entry.home.now stmt.now
+        (map part_view new.new.items)) }
 {
     // The comments that commands have added are many, if anything is: nobody has to go over them.
     let comments = stmt.comments;
@@ -52,7 +53,8 @@ pub(crate) fn edit_rule<'a>(
 /// How many comments more the rule has above it after the command, at least, where it keeps its head.
 #[tactic(auto, using(crate::proofs::HeadKept::above_stays))]
 pub(crate) fn kept_head(command: &Command) -> Option<usize>
-    ensures { IfSome result (λ more. (home : labels.Package) (s : Statement) (r : Rule) → rule_of s.nodes ≡ Some r
+    ensures { IfSome result (λ more. (home : labels.Package) (s : Statement) (r : Rule)
+        → rule_of s.nodes ≡ Some r
         → KeepsHead more s (rule_after command.now home s)) }
 {
     match &command.action {

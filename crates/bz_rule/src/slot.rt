@@ -22,9 +22,11 @@ pub fn apply<'a>(
     home: &Package,
     slot: &mut Option<Stmt<'a>>,
 ) -> Result<Done, NoMemory>
-    ensures slot { OnOk result (slot_view slot.new ≡ commands.after command.now home.now (slot_view slot.old)) }
+    ensures slot { OnOk result (slot_view slot.new
+        ≡ commands.after command.now home.now (slot_view slot.old)) }
     ensures done { IfOk result (λ done. done ≡ commands.done_of command.now home.now (slot_view slot.old)) }
-    ensures changed { IfOk result (λ done. (done.changed ≡ true) ↔ (slot_view slot.new ≡ slot_view slot.old → ⊥)) }
+    ensures changed { IfOk result (λ done. (done.changed ≡ true)
+        ↔ (slot_view slot.new ≡ slot_view slot.old → ⊥)) }
     ensures noted { IfOk result (λ done. is_some done.note ≡ true → slot_view slot.new ≡ slot_view slot.old) }
     ensures no_rule { spec.holds_rule (slot_view slot.old) ≡ false → IsOk result }
     ensures err { OnErr result (slot_view slot.new ≡ slot_view slot.old) }

@@ -13,7 +13,7 @@ ghost use Rattle.bz_attribute.specs.Heads.{HasHead};
 ghost use Rattle.bz_attribute.specs.Marks as marks;
 ghost use Rattle.bz_attribute.specs.Rules.{is_text, rule_of};
 ghost use Rattle.bz_attribute.specs.Texts.{shown_text};
-ghost use Rattle.bz_rule.specs.Print.{prints};
+ghost use Rattle.bz_rule.specs.Reports.{prints};
 ghost use Rattle.bz_layout.specs.Layout.{layout_text};
 ghost use Rattle.bz_rule.specs.Commands as commands;
 ghost use Rattle.bz_attribute.specs.RowEdits.{IsWithin, replaced_at};
@@ -212,8 +212,10 @@ impl<'a> StatementRow<'a> {
     fn edit(&mut self, env: Env<'_>, command: &Command) -> Executed
         requires rule { is_some (rule_of self.old.nodes) ≡ true }
         requires edits { is_edit command.now ≡ true }
-        ensures slot { OnOk result (Some self.new ≡ commands.after command.now env.entry.home.now (Some self.old)) }
-        ensures done { IfOk result (λ done. done ≡ commands.done_of command.now env.entry.home.now (Some self.old)) }
+        ensures slot { OnOk result (Some self.new
+            ≡ commands.after command.now env.entry.home.now (Some self.old)) }
+        ensures done { IfOk result (λ done. done
+            ≡ commands.done_of command.now env.entry.home.now (Some self.old)) }
         ensures err { OnErr result (self.new ≡ self.old) }
     {
         let mut new = mem::replace(&mut self.spare, Vec::new(self.bump));

@@ -2,13 +2,11 @@
 use Rattle.std.specs.Prelude.{ℕ, ◌+◌, ◌==◌, ◌||◌, not, Bool, true, List, [], ◌∷◌, ◌++◌, map, Option, Some, None, Result, Ok, Err, if◌then◌else◌}
 use Rattle.std.specs.List.{find, list_all, slice_split}
 use Rattle.std.specs.Str.{is_utf8}
+use Rattle.bz_token.specs.Common.{is_newline}
 use Rattle.std.specs.Str.Lines.{strip_carriage_return}
 use Rattle.bz_script.specs.declared.usage.UsageFault.{UsageFault}
 use Rattle.bz_script.specs.declared.usage.UsageFault.TheVariants as fault
 use Rattle.bz_script.specs.Groups.{Step, group_of}
-
-abbrev pub is_newline : ℕ → Bool
-is_newline b = b == 10
 
 abbrev pub is_bar : ℕ → Bool
 is_bar b = b == 124

@@ -2,6 +2,7 @@
 use Rattle.std.specs.Prelude.{ℕ, nat_eq, ◌+◌, ◌-◌, ◌==◌, Bool, true, false, if◌then◌else◌, List, [], ◌∷◌, drop, length, codes, Option, None, Some, Result, Ok, Err, is_some}
 use Rattle.std.specs.List.{list_any, starts_with, before_first, after_first}
 use Rattle.std.specs.Str.{bytes_eq}
+use Rattle.bz_token.specs.Common.{is_one_of}
 use Rattle.bz_script.specs.declared.flags.Flags.{Flags}
 use Rattle.bz_script.specs.declared.flags.Switch.{Switch}
 use Rattle.bz_script.specs.declared.flags.Switch.TheVariants.{K, Stdout, Quiet}
@@ -45,9 +46,6 @@ name_of text =
     else (if bytes_eq text (codes "quiet") then Some (name.Switch Quiet)
     else (if bytes_eq text (codes "f") then Some name.File
     else None)))
-
-abbrev pub is_one_of : List (List ℕ) → List ℕ → Bool
-is_one_of texts text = list_any (bytes_eq text) texts
 
 abbrev pub means_true : List ℕ → Bool
 means_true value = is_one_of (codes "1" ∷ codes "t" ∷ codes "T" ∷ codes "true" ∷ codes "TRUE" ∷ codes "True" ∷ []) value

@@ -7,7 +7,8 @@ use Rattle.bz_rule.specs.Forms.{values_of}
 use Rattle.bz_script.specs.declared.notes.Noted.{Noted}
 use Rattle.bz_script.specs.declared.notes.Notes.{Notes}
 use Rattle.bz_script.specs.declared.usage.Refused.{Refused}
-use Rattle.bz_script.specs.Flags.{Argument, SetFile, FileNext, argument_of, undashed, name_in, is_one_of}
+use Rattle.bz_script.specs.Flags.{Argument, SetFile, FileNext, argument_of, undashed, name_in}
+use Rattle.bz_token.specs.Common.{is_one_of}
 use Rattle.bz_script.specs.Groups.{command_in}
 
 -- at least two bytes, of which the first ones and the last ones are the quote

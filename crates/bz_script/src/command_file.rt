@@ -4,6 +4,7 @@ ghost use Rattle.bz_memory.specs.NoMemory.{no_memory};
 ghost use Rattle.std.specs.Prelude.{◌≡◌, ◌≢◌, map, Err, IfOk};
 ghost use Rattle.std.specs.List.{slice_split};
 ghost use Rattle.std.specs.Str.Lines.{strip_carriage_return};
+ghost use Rattle.bz_token.specs.Common.{is_newline};
 ghost use Rattle.bz_script.specs.CommandFiles as spec;
 ghost use Rattle.bz_script.specs.Results.{map_ok};
 
@@ -30,7 +31,7 @@ pub fn read_command_file(alloc: Global, bytes: &[u8]) -> Result<Script, UsageFau
 
 fn read_lines(alloc: Global, text: &str) -> Result<Script, UsageFault>
     ensures { result ≢ Err (UsageFault.OutOfMemory no_memory)
-        → map_ok (λ script. script.items) result ≡ spec.lines_steps 1 (slice_split spec.is_newline text.now) }
+        → map_ok (λ script. script.items) result ≡ spec.lines_steps 1 (slice_split is_newline text.now) }
 {
     let mut script = Vec::new(alloc);
     for (index, line) in text.split('\n').enumerate() {

@@ -93,7 +93,8 @@ fn keep_word(
     commands: &mut Vec<Command>,
     labels: &mut Vec<(Package, Target)>,
 ) -> Result<(), NoMemory>
-    ensures commands { OnOk result (commands.new.items ≡ commands.old.items ++ option_to_list (command_of word)) }
+    ensures commands { OnOk result (commands.new.items
+        ≡ commands.old.items ++ option_to_list (command_of word)) }
     ensures labels { OnOk result (labels.new.items ≡ labels.old.items ++ option_to_list (label_of word)) }
 {
     match word {
@@ -102,10 +103,11 @@ fn keep_word(
     }
 }
 
-/// Reads each word.
+/// Reads each word of a line: commands and labels, in order.
 fn read_words(alloc: Global, line: u64, words: &[&str]) -> Result<Group, UsageFault>
     ensures labels { result ≢ Err (UsageFault.OutOfMemory no_memory)
-        → map_ok (λ group. group.labels.items) result ≡ spec.labels_of line 1 (map (λ word. word.now) words.now) }
+        → map_ok (λ group. group.labels.items) result
+        ≡ spec.labels_of line 1 (map (λ word. word.now) words.now) }
     ensures commands { IfOk result (λ group. group.commands.items
         ≡ spec.commands_of (map (λ word. word.now) words.now)) }
 {

@@ -25,7 +25,8 @@ fn edits_standard<T>(script: &[(Package, T)]) -> bool
 ///
 /// Takes no memory, and [`UsageFault::TwoInputs`] is the one fault.
 pub fn check_inputs<T>(flags: &Flags, script: &[(Package, T)]) -> Result<(), UsageFault>
-    ensures { result ≡ (if spec.takes_two flags.now.file script.now then Err UsageFault.TwoInputs else Ok tt) }
+    ensures { result ≡ (if spec.takes_two flags.now.file script.now then Err UsageFault.TwoInputs
+        else Ok tt) }
 {
     if reads_commands(&flags.file) && edits_standard(script) {
         return Err(UsageFault::TwoInputs);

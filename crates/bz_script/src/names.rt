@@ -16,8 +16,10 @@ pub struct BuildFiles {
 impl BuildFiles {
     /// The paths in a folder, which is empty for the root (buildozer README: `BUILD.bazel` is tried before `BUILD`).
     pub fn of(alloc: Global, folder: &str) -> Result<BuildFiles, NoMemory>
-        ensures first { IfOk result (λ files. string_bytes files.first ≡ in_folder folder.now (codes "BUILD.bazel")) }
-        ensures second { IfOk result (λ files. string_bytes files.second ≡ in_folder folder.now (codes "BUILD")) }
+        ensures first { IfOk result (λ files. string_bytes files.first
+            ≡ in_folder folder.now (codes "BUILD.bazel")) }
+        ensures second { IfOk result (λ files. string_bytes files.second
+            ≡ in_folder folder.now (codes "BUILD")) }
     {
         let first = in_folder(alloc, folder, "BUILD.bazel")?;
         let second = in_folder(alloc, folder, "BUILD")?;

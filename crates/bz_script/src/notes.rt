@@ -3,7 +3,8 @@
 
 ghost use Rattle.std.specs.Prelude.{◌≡◌, ◌≤◌, length, IfOk, IfSome, OnOk, None, true};
 ghost use Rattle.std.specs.List.{list_any};
-ghost use Rattle.bz_script.specs.Flags.{argument_of, is_one_of};
+ghost use Rattle.bz_script.specs.Flags.{argument_of};
+ghost use Rattle.bz_token.specs.Common.{is_one_of};
 ghost use Rattle.bz_rule.specs.Forms.{values_of};
 ghost use Rattle.bz_script.specs.Notes as spec;
 ghost use Rattle.bz_script.specs.Refused.{refused};

@@ -14,7 +14,8 @@ pub fn by_package<T: Drop>(
     alloc: Global,
     script: Vec<(Package, T)>,
 ) -> Result<IndexMap<Package, Vec<T>>, NoMemory>
-    ensures { IfOk result (λ packages. map (λ e. (e.0, e.1.items)) packages.entries ≡ spec.by_package script.items) }
+    ensures { IfOk result (λ packages. map (λ e. (e.0, e.1.items)) packages.entries
+        ≡ spec.by_package script.items) }
 {
     group_by_key(alloc, script)
 }
@@ -24,7 +25,8 @@ fn group_by_key<K: Eq + Hash + Drop, T: Drop>(
     alloc: Global,
     pairs: Vec<(K, T)>,
 ) -> Result<IndexMap<K, Vec<T>>, NoMemory>
-    ensures { IfOk result (λ lists. map (λ e. (e.0, e.1.items)) lists.entries ≡ spec.by_key K.eq pairs.items) }
+    ensures { IfOk result (λ lists. map (λ e. (e.0, e.1.items)) lists.entries
+        ≡ spec.by_key K.eq pairs.items) }
 {
     let mut lists = IndexMap::new(alloc);
     for (key, value) in pairs {

@@ -42,7 +42,8 @@ pub fn read_request(
     ensures once { IfOk result (λ asked. takes_two asked.flags.file asked.script.items ≡ false) }
     ensures notes { IfOk result (λ asked. AreTrue asked.notes) }
     ensures words { result ≢ Err (StartFault.Usage (UsageFault.OutOfMemory no_memory))
-        → IfSome (request_of (map string_bytes words.now)) (λ asked. map_ok (λ it. (it.flags, it.script.items)) result
+        → IfSome (request_of (map string_bytes words.now))
+        (λ asked. map_ok (λ it. (it.flags, it.script.items)) result
         ≡ map_err StartFault.Usage asked) }
 {
     let (flags, rest) = read_flags(alloc, words)?;

@@ -20,7 +20,7 @@ use Rattle.bz_token.specs.declared.cutter.scan.CutState.TheVariants.{Plain, Ende
 use Rattle.bz_token.specs.declared.cutter.scan.Scan.{Scan}
 use Rattle.bz_token.specs.private.CutSteps.{is_ended, byte_of, at, outside, in_short, in_long, next_in, next, start, run, with_comment}
 use Rattle.bz_token.specs.Strings.{is_quote, quote_count, are_two, opens_after, opening}
-use Rattle.bz_token.specs.Lexical.{is_word_byte, is_newline, is_name, is_keyword, operators, is_operator_text, is_text, IsToken}
+use Rattle.bz_token.specs.Lexical.{is_word_byte, is_name, is_keyword, operators, is_operator_text, is_text, IsToken}
 use Rattle.bz_token.specs.private.Closing.{closes, opening_length}
 use Rattle.bz_token.specs.Brackets.{is_inside, is_line, is_opening_bracket, is_closing_bracket, fits, open_after_token}
 use Rattle.bz_token.proofs.Classes.{Class, class_of, keyword_name, can_start, text_class, one_of, same_bytes, empty_no_text}
@@ -35,7 +35,7 @@ use Rattle.bz_token.specs.FreshStart.{ends_in_line, AreLinesOf}
 use Rattle.bz_token.proofs.Fitting.{is_bracket_byte, bracket_class, no_bracket}
 use Rattle.bz_token.proofs.Unique.{blank_class, nothing_unknown}
 use Rattle.bz_token.specs.Reading.{is_gap, Piece, IsReading, open_after, AreTokensOf}
-use Rattle.bz_token.specs.Common.{is_empty}
+use Rattle.bz_token.specs.Common.{is_empty, is_newline}
 use Rattle.bz_token.specs.Pieces.{is_blank, is_white}
 use Rattle.bz_token.specs.private.Gaps.{continues_gap, feeds_gap}
 

@@ -14,7 +14,6 @@ use Rattle.bz_token.specs.declared.cutter.scan.CutState.TheVariants.{Plain}
 use Rattle.bz_token.specs.private.CutSteps.{is_ended, outside, next, start, run}
 use Rattle.bz_token.specs.Cuts.{EndsBefore, ends_in_newline}
 use Rattle.bz_token.specs.Places.{Placed, line_at, column_at}
-use Rattle.bz_token.specs.Lexical.{is_newline}
 use Rattle.bz_token.specs.Brackets.{is_inside, is_line, is_opening_bracket, is_closing_bracket, closes_innermost, fits, open_after_token, open_tokens}
 use Rattle.bz_token.specs.Reading.{begins_gap, Piece, IsReading, open_after, bytes_of, tokens_of}
 use Rattle.bz_token.specs.Faults.{fault_at, IsFirstFault}
@@ -34,7 +33,7 @@ use Rattle.bz_token.proofs.Agree.{Ready, ready_plain, ready_first, gap_run, toke
 use Rattle.bz_token.proofs.FreshChunks.{chunk_ends_line}
 use Rattle.bz_token.proofs.FaultFronts.{has_newline, begins_more, continues_more, opening_same_more, none_more}
 use Rattle.bz_token.proofs.OpenStrings.{string_within}
-use Rattle.bz_token.specs.Common.{begins}
+use Rattle.bz_token.specs.Common.{begins, is_newline}
 use Rattle.bz_token.specs.Strings.{opening, is_string}
 use Rattle.bz_token.specs.Pieces.{is_blank, is_white}
 use Rattle.bz_token.specs.private.Gaps.{continues}

@@ -9,10 +9,10 @@ use Rattle.std.proofs.lemmas.Slice.Eq.{bytes_eq-Decides}
 use Rattle.bz_token.specs.declared.token.Kind.{Kind}
 use Rattle.bz_token.specs.declared.token.Kind.TheVariants.{Identifier, Keyword, Integer, String, Operator, Newline, Comment, Kept}
 use Rattle.bz_token.specs.Strings.{is_quote, is_string, opening}
-use Rattle.bz_token.specs.Lexical.{is_word_byte, is_newline, is_one_of, keywords, is_keyword, operators, is_operator_text, is_name, is_number, are_based, is_text, ends_blank}
+use Rattle.bz_token.specs.Lexical.{is_word_byte, keywords, is_keyword, operators, is_operator_text, is_name, is_number, are_based, is_text, ends_blank}
 use Rattle.bz_token.specs.declared.scan_string.Opening.{Opening}
 use Rattle.bz_token.proofs.Prefixes.{opening_is}
-use Rattle.bz_token.specs.Common.{begins}
+use Rattle.bz_token.specs.Common.{begins, is_newline, is_one_of}
 use Rattle.bz_token.specs.private.Closing.{is_closed}
 
 pub data Class : Type 0 where

@@ -234,9 +234,10 @@ from_one (b ∷ c ∷ bs) after h d k seen l = cc
 from_comment : (p after : List ℕ) → is_comment p ≡ true → Passes p after
 from_comment [] after h d k seen l = cc
 from_comment (b ∷ bs) after h d k seen l =
-    let parts = and_parts (b == 35) (not (list_any (λ c. c == 10) bs)) h in
+    let parts = and_parts (b == 35) (not (list_any (λ c. c == 10) (b ∷ bs))) h in
+    let none = or_parts (b == 10) (list_any (λ c. c == 10) bs) (not-true _ parts.1) in
     let e = eqb-true b 35 parts.0 in
-    subst (λ x. Passes (x ∷ bs) after) (sym e) (λ n j s m. comment_passes bs after n j s (not-true _ parts.1) m) d k seen l
+    subst (λ x. Passes (x ∷ bs) after) (sym e) (λ n j s m. comment_passes bs after n j s none.1 m) d k seen l
 
 from_continued : (p after : List ℕ) → is_continued p ≡ true → Passes p after
 from_continued p after h d k seen l = elim (or_cases _ _ h) [

@@ -14,13 +14,13 @@ use Rattle.bz_token.specs.declared.scan_string.Escape.TheVariants.{Unescaped}
 use Rattle.bz_token.specs.declared.token.Kind.{Kind}
 use Rattle.bz_token.specs.declared.token.Kind.TheVariants.{Identifier, Keyword, Integer, String, Operator, Newline, Comment, Kept}
 use Rattle.bz_token.specs.Strings.{is_quote, is_string, quote_count, are_two, opening}
-use Rattle.bz_token.specs.Lexical.{is_word_byte, is_newline, operators, is_operator_text, is_keyword, is_name, ends_blank, are_based, is_octal_digit, is_number, is_comment, is_text, counts, is_number_kind, is_string_kind, IsToken, HasNoToken}
+use Rattle.bz_token.specs.Lexical.{is_word_byte, operators, is_operator_text, is_keyword, is_name, ends_blank, are_based, is_octal_digit, is_number, is_comment, is_text, counts, is_number_kind, is_string_kind, IsToken, HasNoToken}
 use Rattle.bz_token.specs.private.Closing.{closes, opening_length, is_closed}
 use Rattle.bz_token.specs.Ends.{is_prefix, is_empty_string, stops, stops_at}
 use Rattle.bz_token.proofs.Classes.{Class, letter, digit, quote, newline, hash, mark, unknown, class_of, can_start, text_class, letter_class, digit_class, name_parts, keyword_name, number_starts, one_of, empty_no_text}
 use Rattle.bz_token.proofs.StringUnits.{closes_units}
 use Rattle.bz_token.proofs.Openings.{opening_more, name_opening, opening_facts, same_opening, opening_same, third_quote, no_opening, ends_name, closes_once}
-use Rattle.bz_token.specs.Common.{is_empty, map_or, begins}
+use Rattle.bz_token.specs.Common.{is_empty, map_or, begins, is_newline}
 use Rattle.bz_token.specs.Pieces.{is_blank}
 
 -- what rules a longer token out

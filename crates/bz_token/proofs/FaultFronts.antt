@@ -9,7 +9,7 @@ use Rattle.bz_token.specs.declared.token.Kind.{Kind}
 use Rattle.bz_token.specs.declared.token.Kind.TheVariants.{Identifier, Keyword, Integer, String, Operator, Newline, Comment, Kept}
 use Rattle.bz_token.specs.declared.scan_string.Opening.{Opening}
 use Rattle.bz_token.specs.Strings.{is_quote, opens_after, opening, is_string}
-use Rattle.bz_token.specs.Lexical.{is_word_byte, is_newline, is_name, is_keyword, is_text, is_string_kind, is_number_kind, counts, HasNoToken}
+use Rattle.bz_token.specs.Lexical.{is_word_byte, is_name, is_keyword, is_text, is_string_kind, is_number_kind, counts, HasNoToken}
 use Rattle.bz_token.specs.private.Gaps.{continues}
 use Rattle.bz_token.proofs.Classes.{keyword_name, same_bytes}
 use Rattle.bz_token.proofs.Openings.{opens_r, opens_rb, opens_b, opens_br, opens_plain}
@@ -17,7 +17,7 @@ use Rattle.bz_token.proofs.Ends.{number_words, comment_parts}
 use Rattle.bz_token.proofs.Agree.{is_operator_plain, operator_plain}
 use Rattle.bz_token.proofs.Unique.{longer_front}
 use Rattle.bz_token.proofs.Joins.{any_left}
-use Rattle.bz_token.specs.Common.{map_or, begins}
+use Rattle.bz_token.specs.Common.{map_or, begins, is_newline}
 
 abbrev pub has_newline : List ℕ → Bool
 has_newline xs = list_any is_newline xs

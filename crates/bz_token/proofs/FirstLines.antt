@@ -4,7 +4,8 @@ use Rattle.std.specs.List.{list_all, list_any}
 use Rattle.std.proofs.lemmas.Bool.{false≢true}
 use Rattle.bz_token.specs.declared.token.Kind.{Kind}
 use Rattle.bz_token.specs.declared.token.Kind.TheVariants.{Identifier, Keyword, Integer, String, Operator, Newline, Comment, Kept}
-use Rattle.bz_token.specs.Lexical.{is_newline, is_text, IsToken}
+use Rattle.bz_token.specs.Lexical.{is_text, IsToken}
+use Rattle.bz_token.specs.Common.{is_newline}
 use Rattle.bz_token.specs.Ends.{ends, stops_at}
 use Rattle.bz_token.specs.Brackets.{is_line, fits, open_after_token}
 use Rattle.bz_token.specs.Reading.{Piece, IsReading, open_after, bytes_of}

@@ -10,9 +10,9 @@ use Rattle.std.specs.Simd.Lanes.{zip2, mask_l, top}
 use Rattle.std.specs.Int.Count.{count_trailing_zeros}
 use Rattle.std.proofs.lemmas.Simd.{bitmask_splat, trailing_mask_l}
 use Rattle.bz_token.proofs.Units.{gap_step}
-use Rattle.bz_token.specs.Lexical.{is_newline, ends_blank, is_comment}
+use Rattle.bz_token.specs.Lexical.{ends_blank, is_comment}
 use Rattle.bz_token.specs.Reading.{is_gap}
-use Rattle.bz_token.specs.Common.{begins}
+use Rattle.bz_token.specs.Common.{begins, is_newline}
 use Rattle.bz_token.specs.Pieces.{is_blank, is_white}
 use Rattle.bz_token.specs.private.Gaps.{continues_gap}
 

@@ -8,7 +8,8 @@ use Rattle.std.proofs.lemmas.List.Folds.{list_any-append}
 use Rattle.bz_token.specs.declared.token.Kind.{Kind}
 use Rattle.bz_token.specs.declared.token.Kind.TheVariants.{Identifier, Keyword, Integer, String, Operator, Newline, Comment, Kept}
 use Rattle.bz_token.specs.Places.{Placed, line_at, column_from, column_at}
-use Rattle.bz_token.specs.Lexical.{is_newline, is_text, IsToken}
+use Rattle.bz_token.specs.Lexical.{is_text, IsToken}
+use Rattle.bz_token.specs.Common.{is_newline}
 use Rattle.bz_token.specs.Ends.{ends, stops_at}
 use Rattle.bz_token.specs.Brackets.{is_line, open_after_token}
 use Rattle.bz_token.specs.Reading.{Piece, IsPiece, IsReading, open_after, bytes_of, token_of, tokens_of, AreTokensOf}

@@ -5,7 +5,7 @@ use Rattle.std.specs.List.{prefix_len}
 use Rattle.std.proofs.lemmas.List.Sums.{prefix_len_passes, prefix_len_stops, prefix_len-le-length}
 use Rattle.std.proofs.lemmas.Bool.{cases_lt, false≢true, not-false}
 use Rattle.memchr.specs.Find.{IsFirstByte, is_byte}
-use Rattle.bz_token.specs.Lexical.{is_newline}
+use Rattle.bz_token.specs.Common.{is_newline}
 
 not_both : (x : Bool) → not x ≡ true → x ≡ true → ⊥
 not_both true n h = false≢true n

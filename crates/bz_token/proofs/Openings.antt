@@ -12,12 +12,12 @@ use Rattle.bz_token.specs.declared.scan_string.Escape.{Escape}
 use Rattle.bz_token.specs.declared.scan_string.Escape.TheVariants.{Unescaped}
 use Rattle.bz_token.specs.declared.token.Kind.TheVariants.{String}
 use Rattle.bz_token.specs.Strings.{is_quote, quote_count, are_two, opens_after, opening}
-use Rattle.bz_token.specs.Lexical.{is_word_byte, is_newline}
+use Rattle.bz_token.specs.Lexical.{is_word_byte}
 use Rattle.bz_token.specs.private.Closing.{is_escaped, escape_after, closes, prefix_letters, opening_length}
 use Rattle.bz_token.specs.Ends.{is_prefix}
 use Rattle.bz_token.proofs.Prefixes.{opening_is}
 use Rattle.bz_token.proofs.Classes.{class_of, can_start, opening_starts}
-use Rattle.bz_token.specs.Common.{is_empty, begins}
+use Rattle.bz_token.specs.Common.{is_empty, begins, is_newline}
 
 -- a longer text opens the same string, or a long one where the shorter text opened a short one
 pub record OpensMore (o : Opening) (bytes : List ℕ) : Type 0 where

@@ -5,12 +5,11 @@ use Rattle.std.specs.Prelude.{if◌then◌else◌}
 use Rattle.std.proofs.lemmas.Bool.{and_parts, not-true, or_from, eq-eqb}
 use Rattle.std.proofs.lemmas.Bool.Decides.{nat_tests}
 use Rattle.bz_token.specs.Strings.{is_quote}
-use Rattle.bz_token.specs.Lexical.{is_newline}
 use Rattle.bz_token.specs.private.Closing.{closes, starts_escape}
 use Rattle.bz_token.specs.private.Scans.{is_plain}
 use Rattle.bz_token.specs.declared.scan_string.Quotes.{Quotes}
 use Rattle.bz_token.specs.declared.scan_string.Escape.TheVariants.{Unescaped, AfterBackslash}
-use Rattle.bz_token.specs.Common.{is_empty}
+use Rattle.bz_token.specs.Common.{is_empty, is_newline}
 
 pub quote_no_newline : (q : ℕ) → is_quote q ≡ true → (q == 10) ≡ false
 quote_no_newline q h = grind (arith, nat_tests)

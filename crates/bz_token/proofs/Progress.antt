@@ -11,7 +11,7 @@ use Rattle.std.proofs.lemmas.Grind.{common_steps}
 use Rattle.std.proofs.lemmas.Str.{IsCharBoundary-start, IsUtf8-drop}
 use Rattle.bz_token.specs.declared.token.Kind.{Kind}
 use Rattle.bz_token.specs.Places.{Placed, line_at, column_from, column_at}
-use Rattle.bz_token.specs.Lexical.{is_newline, IsToken}
+use Rattle.bz_token.specs.Lexical.{IsToken}
 use Rattle.bz_token.specs.Brackets.{is_inside, is_opening_bracket, is_closing_bracket, closes_innermost, fits, open_after_token, open_tokens}
 use Rattle.bz_token.specs.Reading.{is_gap, begins_gap, Piece, IsPiece, IsReading, open_after, bytes_of, token_of, tokens_of, AreTokensOf}
 use Rattle.bz_token.specs.declared.fault.LexFault.{LexFault}
@@ -27,7 +27,7 @@ use Rattle.bz_token.proofs.Innermost.{step}
 use Rattle.bz_token.proofs.Scanning.{boundary_after}
 use Rattle.bz_token.proofs.Unique.{gap_stuck}
 use Rattle.bz_token.proofs.BadPlaces.{Sort, open_text, bad_number, bad_backslash, bad_bracket, too_deep, bad_character, told, IsBadAt, bad_fault_at}
-use Rattle.bz_token.specs.Common.{begins}
+use Rattle.bz_token.specs.Common.{begins, is_newline}
 use Rattle.bz_token.specs.Pieces.{is_blank}
 
 abbrev pub newlines : List ℕ → ℕ

@@ -13,7 +13,8 @@ use Rattle.bz_token.specs.declared.cutter.scan.LineKind.TheVariants.{Statement}
 use Rattle.bz_token.specs.declared.cutter.scan.CutState.{CutState}
 use Rattle.bz_token.specs.declared.cutter.scan.CutState.TheVariants.{Plain, Ended, BrokenOff, Backslash, BackslashReturn, Comment, Opened, OpenedTwice, Short, ShortEscape, ShortEscapeReturn, Long, LongQuote, LongTwoQuotes, LongEscape}
 use Rattle.bz_token.specs.declared.cutter.scan.Scan.{Scan}
-use Rattle.bz_token.specs.Lexical.{is_word_byte, is_newline, is_name, is_keyword, is_text}
+use Rattle.bz_token.specs.Lexical.{is_word_byte, is_name, is_keyword, is_text}
+use Rattle.bz_token.specs.Common.{is_newline}
 use Rattle.bz_token.specs.private.CutSteps.{is_ended, outside, next_in, next, run}
 use Rattle.bz_token.proofs.Classes.{keyword_name}
 use Rattle.bz_token.proofs.Ends.{number_words, string_opens}

@@ -17,7 +17,7 @@ use Rattle.bz_token.specs.declared.scan_token.Scanned.{Scanned}
 use Rattle.bz_token.specs.declared.token.Kind.{Kind}
 use Rattle.bz_token.specs.declared.token.Kind.TheVariants.{Identifier, Keyword, Integer, String, Operator, Newline, Comment, Kept}
 use Rattle.bz_token.specs.Strings.{is_quote, opens_after, opening}
-use Rattle.bz_token.specs.Lexical.{is_word_byte, is_newline, is_name, is_number, is_operator_text, is_comment, is_text, IsToken}
+use Rattle.bz_token.specs.Lexical.{is_word_byte, is_name, is_number, is_operator_text, is_comment, is_text, IsToken}
 use Rattle.bz_token.specs.private.Closing.{closes, opening_length}
 use Rattle.bz_token.specs.private.BadPlaces.{IsBadCharacter, IsBadNumber, IsOpenText}
 use Rattle.bz_token.specs.Ends.{stops_at}
@@ -27,7 +27,7 @@ use Rattle.bz_token.proofs.Classes.{mark, unknown, can_start, is_mark}
 use Rattle.bz_token.proofs.Openings.{opens_plain, opening_front, closes_last, opening_facts}
 use Rattle.bz_token.proofs.Ends.{name_token_at, number_token, operator_token, line_token, comment_token, string_token_at, open_string, bad_number, no_operator, comment_parts}
 use Rattle.bz_token.proofs.Operators.{is_operator_byte, operator_bytes}
-use Rattle.bz_token.specs.Common.{begins}
+use Rattle.bz_token.specs.Common.{begins, is_newline}
 use Rattle.bz_token.specs.Pieces.{is_blank}
 
 pub boundary_after : (bytes : List ℕ) (n : ℕ) → 0 < n → n ≤ length bytes → get_or bytes (n - 1) 0 < 128 → IsUtf8 bytes → IsCharBoundary bytes n

@@ -12,13 +12,13 @@ use Rattle.bz_token.specs.declared.scan_token.Scanned.{Scanned}
 use Rattle.bz_token.specs.declared.scan_token.Bad.{Bad}
 use Rattle.bz_token.specs.declared.scan_token.Bad.TheVariants.{Character, Number, OpenText, Backslash}
 use Rattle.bz_token.specs.declared.token.Kind.TheVariants.{Identifier, Keyword, Integer, String, Operator, Newline, Comment}
-use Rattle.bz_token.specs.Lexical.{is_word_byte, is_newline, is_keyword, is_number, is_operator_text}
+use Rattle.bz_token.specs.Lexical.{is_word_byte, is_keyword, is_number, is_operator_text}
 use Rattle.bz_token.specs.private.Closing.{closes, opening_length}
 use Rattle.bz_token.specs.private.Scans.{IsScanned, IsBadPlace}
 use Rattle.bz_token.proofs.Gaps.{comment_front}
 use Rattle.bz_token.proofs.Operators.{IsOperatorLength, operator_at}
 use Rattle.bz_token.proofs.Scanning.{string_scanned, open_text, number_scanned, no_number, name_scanned, line_scanned, operator_scanned, comment_scanned, no_character}
-use Rattle.bz_token.specs.Common.{begins}
+use Rattle.bz_token.specs.Common.{begins, is_newline}
 use Rattle.bz_token.specs.Strings.{opening}
 use Rattle.bz_token.specs.Pieces.{is_blank}
 

@@ -12,7 +12,8 @@ use Rattle.bz_token.specs.declared.cutter.scan.CutState.{CutState}
 use Rattle.bz_token.specs.declared.cutter.scan.CutState.TheVariants.{Plain, Ended, BrokenOff, Backslash, BackslashReturn, Comment, Opened, OpenedTwice, Short, ShortEscape, ShortEscapeReturn, Long, LongQuote, LongTwoQuotes, LongEscape}
 use Rattle.bz_token.specs.declared.cutter.scan.Scan.{Scan}
 use Rattle.bz_token.specs.private.CutSteps.{is_ended, at, outside, next_in, next, run, with_comment}
-use Rattle.bz_token.specs.Lexical.{is_newline, is_text, IsToken}
+use Rattle.bz_token.specs.Lexical.{is_text, IsToken}
+use Rattle.bz_token.specs.Common.{is_newline}
 use Rattle.bz_token.specs.Brackets.{is_line, fits, open_after_token}
 use Rattle.bz_token.specs.Reading.{is_gap}
 use Rattle.bz_token.proofs.Classes.{newline, hash, unknown, class_of, can_start, text_class, empty_no_text}

@@ -11,14 +11,14 @@ use Rattle.bz_token.specs.declared.scan_string.Escape.TheVariants.{Unescaped}
 use Rattle.bz_token.specs.declared.token.Kind.{Kind}
 use Rattle.bz_token.specs.declared.token.Kind.TheVariants.{Identifier, Keyword, Integer, String, Operator, Newline, Comment, Kept}
 use Rattle.bz_token.specs.Strings.{is_quote, quote_count, are_two, opens_after, opening}
-use Rattle.bz_token.specs.Lexical.{is_word_byte, is_newline, is_one_of, operators, is_operator_text, keywords, is_keyword, is_name, is_comment, ends_blank, is_text, counts, is_string_kind, IsToken}
+use Rattle.bz_token.specs.Lexical.{is_word_byte, operators, is_operator_text, keywords, is_keyword, is_name, is_comment, ends_blank, is_text, counts, is_string_kind, IsToken}
 use Rattle.bz_token.specs.private.Closing.{closes, opening_length}
 use Rattle.bz_token.specs.Ends.{is_prefix, is_empty_string, stops, stops_at, is_comment_kind, ends}
 use Rattle.bz_token.proofs.Classes.{hash as hash_class}
 use Rattle.bz_token.proofs.Classes.{mark, class_of, can_start, text_class, digit_class, name_parts, keyword_name, number_starts, one_of, same_bytes, empty_no_text}
 use Rattle.bz_token.proofs.Openings.{opens_r, opens_b, opens_rb, opens_br, opening_more, opening_facts, no_opening, ends_name}
 use Rattle.bz_token.proofs.Ends.{name_token, number_token, operator_token, line_token, comment_token, string_token, string_opens, stops_run, number_words, counts_free, no_digit, mark_of, comment_parts}
-use Rattle.bz_token.specs.Common.{map_or}
+use Rattle.bz_token.specs.Common.{map_or, is_newline, is_one_of}
 use Rattle.bz_token.specs.Pieces.{is_blank}
 
 keyword_no_prefix : (text : List ℕ) → is_keyword text ≡ true → not (is_prefix text) ≡ true

@@ -2,7 +2,7 @@
 -- in column 1 with `def`, `for` or `if`, and the lines after it that are indented or empty; after an `if`
 -- also those of its branches.
 -- Begin with `goes_on` and `opener`.
-use Rattle.std.specs.Prelude.{cond, bytes_eq, Option, Some, None, ℕ, List, [], ◌∷◌, Bool, true, false, not, ◌||◌, codes}
+use Rattle.std.specs.Prelude.{if◌then◌else◌, bytes_eq, Option, Some, None, ℕ, List, [], ◌∷◌, Bool, true, false, not, ◌||◌, codes}
 use Rattle.std.specs.List.{take_while, concat}
 use Rattle.bz_token.specs.Strings.{units}
 use Rattle.bz_token.specs.Pieces.{is_one, is_blank, is_white, is_space}
@@ -10,13 +10,13 @@ use Rattle.bz_token.specs.Lexical.{is_word_byte}
 use Rattle.bz_token.specs.declared.cutter.block.Opener.{Opener}
 use Rattle.bz_token.specs.declared.cutter.block.Opener.TheVariants.{Def, For, If}
 
--- What stands after white space and continued lines, if it stands in column 1; `first`: this is column 1.
--- (`cond b x y` is x if b, else y.)
+-- What stands after white space and continued lines, if it stands in column 1; `first`: this is column 1. The
+-- bytes come as `units`, in which a backslash and the newline after it are one.
 abbrev pub head_from : Bool → List (List ℕ) → List ℕ
 head_from first [] = []
 head_from first (u ∷ us) =
     elim (is_space true u)
-    [ true ↦ head_from (not (is_one is_blank u)) us | false ↦ cond first (concat (u ∷ us)) [] ]
+    [ true ↦ head_from (not (is_one is_blank u)) us | false ↦ if first then concat (u ∷ us) else [] ]
 
 -- the letters, digits and underscores that bytes begin with
 abbrev pub word_at : List ℕ → List ℕ
@@ -25,8 +25,9 @@ word_at bytes = take_while is_word_byte bytes
 -- the word that makes a logical line the head of a block
 abbrev pub opener_of : List ℕ → Option Opener
 opener_of word =
-    cond (bytes_eq word (codes "def")) (Some Def)
-    (cond (bytes_eq word (codes "for")) (Some For) (cond (bytes_eq word (codes "if")) (Some If) None))
+    if bytes_eq word (codes "def") then Some Def
+    else (if bytes_eq word (codes "for") then Some For
+    else (if bytes_eq word (codes "if") then Some If else None))
 
 -- the word of the block that a logical line begins
 abbrev pub opener : List ℕ → Option Opener

@@ -5,6 +5,7 @@
 use Rattle.std.specs.Prelude.{ℕ, List, [], ◌∷◌, length, drop, Bool, true, false, not, ◌&&◌, ◌||◌, ◌==◌, nat_lt, if◌then◌else◌}
 use Rattle.bz_token.specs.declared.token.Kind.{Kind}
 use Rattle.bz_token.specs.declared.token.Kind.TheVariants.{Newline}
+use Rattle.bz_token.specs.Common.{is_filled}
 use Rattle.bz_token.specs.Pieces.{is_one}
 use Rattle.bz_token.specs.Places.{Placed}
 
@@ -22,8 +23,7 @@ is_pair a b = (a == 40 && b == 41) || (a == 91 && b == 93) || (a == 123 && b == 
 
 -- some bracket is open
 abbrev pub is_inside : List ℕ → Bool
-is_inside [] = false
-is_inside (a ∷ opened) = true
+is_inside opened = is_filled opened
 
 -- a closing bracket matches the innermost open one
 abbrev pub closes_innermost : List ℕ → ℕ → Bool
@@ -46,13 +46,14 @@ abbrev pub fits : ℕ → List ℕ → Kind → List ℕ → Bool
 fits depth opened kind (b ∷ []) = not (is_line kind && is_inside opened) && bracket_fits depth opened b
 fits depth opened kind _ = true
 
--- the brackets that are open after a token
+-- the brackets that are open after a token, or after a piece of a file (`Pieces`): in both a bracket is one
+-- byte
 abbrev pub open_after_token : List ℕ → List ℕ → List ℕ
 open_after_token opened (b ∷ []) =
     if is_opening_bracket b then b ∷ opened else (if is_closing_bracket b then drop 1 opened else opened)
 open_after_token opened _ = opened
 
--- the tokens of the brackets that are open after a list of tokens
+-- the same after a list of tokens, but each open bracket as its token, which has its place
 abbrev pub open_tokens : List Placed → List Placed → List Placed
 open_tokens opened [] = opened
 open_tokens opened (t ∷ ts) =

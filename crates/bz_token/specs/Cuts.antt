@@ -1,12 +1,13 @@
 -- Where a chunk ends; and what of it a `Cutter` answers, the code that takes a file line by line
 -- (`src/cutter.rt`; this project's own rule).
 -- Begin with `EndsBefore`.
-use Rattle.std.specs.Prelude.{◌≡◌, ◌<◌, ◌++◌, length, ℕ, List, [], ◌∷◌, Bool, true, false, not, ◌&&◌, ◌==◌}
+use Rattle.std.specs.Prelude.{◌≡◌, ◌<◌, ◌++◌, length, ℕ, List, [], ◌∷◌, Bool, true, false, not, ◌&&◌}
 use Rattle.bz_token.specs.declared.cutter.block.Opener.{Opener}
 use Rattle.bz_token.specs.declared.cutter.Cut.{Cut}
 use Rattle.bz_token.specs.declared.cutter.Cut.TheVariants.{Whole, More, Block}
 use Rattle.bz_token.specs.declared.cutter.Next.{Next}
 use Rattle.bz_token.specs.declared.cutter.Next.TheVariants.{Goes, Ends, Short}
+use Rattle.bz_token.specs.Common.{is_newline}
 use Rattle.bz_token.specs.Blocks.{goes_on}
 use Rattle.bz_token.specs.Chunks.{chunks}
 
@@ -14,17 +15,17 @@ use Rattle.bz_token.specs.Chunks.{chunks}
 abbrev pub is_physical_line : List ℕ → Bool
 is_physical_line [] = true
 is_physical_line (b ∷ []) = true
-is_physical_line (b ∷ c ∷ bs) = not (b == 10) && is_physical_line (c ∷ bs)
+is_physical_line (b ∷ c ∷ bs) = not (is_newline b) && is_physical_line (c ∷ bs)
 
 abbrev pub ends_in_newline : List ℕ → Bool
 ends_in_newline [] = false
-ends_in_newline (b ∷ []) = b == 10
+ends_in_newline (b ∷ []) = is_newline b
 ends_in_newline (b ∷ c ∷ bs) = ends_in_newline (c ∷ bs)
 
 -- the physical line that a text begins with
 abbrev pub first_line : List ℕ → List ℕ
 first_line [] = []
-first_line (b ∷ bs) = b ∷ elim (b == 10) [ true ↦ [] | false ↦ first_line bs ]
+first_line (b ∷ bs) = b ∷ elim (is_newline b) [ true ↦ [] | false ↦ first_line bs ]
 
 -- The bytes are the first chunk where this follows, and the other chunks are those of the rest.
 abbrev pub EndsBefore : List ℕ → List ℕ → Type 0

@@ -5,7 +5,8 @@ use Rattle.bz_token.specs.declared.token.Kind.{Kind}
 use Rattle.bz_token.specs.declared.token.Kind.TheVariants.{Identifier, Keyword, Integer, String, Operator, Newline, Comment, Kept}
 use Rattle.bz_token.specs.declared.scan_string.Opening.{Opening}
 use Rattle.bz_token.specs.Strings.{is_quote, opening}
-use Rattle.bz_token.specs.Lexical.{is_word_byte, is_newline, is_one_of, is_operator_text}
+use Rattle.bz_token.specs.Lexical.{is_word_byte, is_operator_text}
+use Rattle.bz_token.specs.Common.{is_newline, is_one_of}
 use Rattle.bz_token.specs.Pieces.{is_blank}
 
 abbrev pub is_prefix : List ℕ → Bool

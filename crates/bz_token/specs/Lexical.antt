@@ -3,25 +3,18 @@
 -- reserved are identifiers, a decimal number may begin with 0.
 -- Begin with `IsToken`.
 use Rattle.std.specs.Prelude.{ℕ, ◌≡◌, List, [], ◌∷◌, ◌++◌, length, Bool, true, false, not, ◌&&◌, ◌||◌, ◌==◌, nat_le, codes, bytes_eq, Some, None}
-use Rattle.std.specs.List.{list_all, list_any, prefix_len}
+use Rattle.std.specs.List.{list_all, prefix_len}
 use Rattle.std.specs.Char.{is_ascii_digit, is_ascii_hexdigit, is_ascii_alphabetic}
 use Rattle.bz_token.specs.declared.token.Kind.{Kind}
 use Rattle.bz_token.specs.declared.token.Kind.TheVariants.{Identifier, Keyword, Integer, String, Operator, Newline, Comment, Kept}
 use Rattle.bz_token.specs.Strings.{opening, is_string}
 use Rattle.bz_token.specs.Pieces.{is_blank}
-use Rattle.bz_token.specs.Common.{begins, is_empty, map_or}
+use Rattle.bz_token.specs.Pieces as pieces
+use Rattle.bz_token.specs.Common.{begins, is_empty, is_one_of, map_or}
 
 -- ASCII letters, digits and underscores
 abbrev pub is_word_byte : ℕ → Bool
 is_word_byte b = is_ascii_alphabetic b || is_ascii_digit b || b == 95
-
--- a newline
-abbrev pub is_newline : ℕ → Bool
-is_newline b = b == 10
-
--- one of these texts
-abbrev pub is_one_of : List (List ℕ) → List ℕ → Bool
-is_one_of texts text = list_any (bytes_eq text) texts
 
 -- letters, digits and underscores, not beginning with a digit
 abbrev pub is_name : List ℕ → Bool
@@ -55,15 +48,19 @@ abbrev pub is_number : List ℕ → Bool
 is_number [] = false
 is_number (b ∷ bs) = list_all is_ascii_digit (b ∷ bs) || (b == 48 && are_based bs)
 
+-- the augmented assignments (Starlark specification, "Assignments")
+abbrev pub augmented : List (List ℕ)
+augmented =
+    codes "+=" ∷ codes "-=" ∷ codes "*=" ∷ codes "/=" ∷ codes "//=" ∷ codes "%=" ∷ codes "&=" ∷ codes "|="
+    ∷ codes "^=" ∷ codes "<<=" ∷ codes ">>=" ∷ []
+
 -- the operators, brackets and other signs
 unfoldable pub operators : List (List ℕ)
 operators =
     codes "+" ∷ codes "-" ∷ codes "*" ∷ codes "/" ∷ codes "//" ∷ codes "%" ∷ codes "**" ∷ codes "~"
     ∷ codes "&" ∷ codes "|" ∷ codes "^" ∷ codes "<<" ∷ codes ">>" ∷ codes "." ∷ codes "," ∷ codes "="
     ∷ codes ";" ∷ codes ":" ∷ codes "(" ∷ codes ")" ∷ codes "[" ∷ codes "]" ∷ codes "{" ∷ codes "}"
-    ∷ codes "<" ∷ codes ">" ∷ codes ">=" ∷ codes "<=" ∷ codes "==" ∷ codes "!=" ∷ codes "+=" ∷ codes "-="
-    ∷ codes "*=" ∷ codes "/=" ∷ codes "//=" ∷ codes "%=" ∷ codes "&=" ∷ codes "|=" ∷ codes "^="
-    ∷ codes "<<=" ∷ codes ">>=" ∷ []
+    ∷ codes "<" ∷ codes ">" ∷ codes ">=" ∷ codes "<=" ∷ codes "==" ∷ codes "!=" ∷ augmented
 
 -- one of them
 abbrev pub is_operator_text : List ℕ → Bool
@@ -75,11 +72,11 @@ ends_blank [] = false
 ends_blank (b ∷ []) = is_blank b
 ends_blank (b ∷ c ∷ bs) = ends_blank (c ∷ bs)
 
--- a number sign and what follows it on its line, without trailing white space
+-- a comment as in `Pieces`, but one that does not end in white space
 abbrev pub is_comment : List ℕ → Bool
-is_comment text = begins (λ b. b == 35) text && not (list_any is_newline text) && not (ends_blank text)
+is_comment text = pieces.is_comment text && not (ends_blank text)
 
--- a text of this kind
+-- a text of this kind (no token is `Kept`: that is the kind of a whole block in a tree, bz_tree `Blocks`)
 abbrev pub is_text : Kind → List ℕ → Bool
 is_text Identifier text = is_name text && not (is_keyword text)
 is_text Keyword text = is_keyword text
@@ -100,11 +97,11 @@ abbrev pub is_string_kind : Kind → Bool
 is_string_kind String = true
 is_string_kind _ = false
 
--- At a string's opening quotes only strings count, at three quotes only long ones; at a digit only all
--- letters, digits and underscores that stand there; anywhere else every text counts.
+-- At a string's opening quotes (`o`) only strings count, at three quotes only long ones (`p` opens the text);
+-- at a digit only all letters, digits and underscores that stand there; anywhere else every text counts.
 abbrev pub counts : List ℕ → Kind → List ℕ → Bool
 counts place kind text = elim (opening place) [
-  | Some o ↦ is_string_kind kind && (map_or false (λ o. o.quotes.long) (opening text) || not o.quotes.long)
+  | Some o ↦ is_string_kind kind && (map_or false (λ p. p.quotes.long) (opening text) || not o.quotes.long)
   | None ↦ elim (begins is_ascii_digit place) [
     | true ↦ is_number_kind kind && (length text == prefix_len is_word_byte place)
     | false ↦ true

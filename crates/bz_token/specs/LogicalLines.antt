@@ -2,11 +2,11 @@
 -- "Lexical elements"). A newline that breaks off a short string ends one too (this project's own rule). A
 -- line here is a list of pieces.
 -- Begin with `lines`.
-use Rattle.std.specs.Prelude.{ℕ, List, [], map, Bool, true, false, not, ◌&&◌, ◌||◌, if◌then◌else◌, None}
-use Rattle.std.specs.List.{list_all, concat, fold, last_or}
+use Rattle.std.specs.Prelude.{ℕ, List, [], map, Bool, true, false, not, ◌&&◌, ◌||◌, if◌then◌else◌}
+use Rattle.std.specs.List.{list_all, concat, fold}
 use Rattle.bz_token.specs.declared.cutter.scan.LineKind.{LineKind}
 use Rattle.bz_token.specs.declared.cutter.scan.LineKind.TheVariants.{Blank, CommentLine, Statement}
-use Rattle.bz_token.specs.Common.{is_empty, map_or}
+use Rattle.bz_token.specs.Common.{is_empty, last_of, map_or}
 use Rattle.bz_token.specs.Groups.{grouped}
 use Rattle.bz_token.specs.Strings.{is_byte}
 use Rattle.bz_token.specs.Pieces.{is_comment, is_broken_off, is_piece, is_space}
@@ -15,11 +15,11 @@ use Rattle.bz_token.specs.Brackets.{open_after_token}
 
 -- A newline outside brackets ends a logical line, whatever the brackets' shapes.
 abbrev pub ends_line : List (List ℕ) → Bool
-ends_line line = map_or false (is_byte 10) (last_or None line) && is_empty (fold open_after_token [] line)
+ends_line line = map_or false (is_byte 10) (last_of line) && is_empty (fold open_after_token [] line)
 
 -- And so does one that breaks off a string.
 abbrev pub breaks_off : List (List ℕ) → Bool
-breaks_off line = map_or false is_broken_off (last_or None line)
+breaks_off line = map_or false is_broken_off (last_of line)
 
 -- whether a piece joins the line before it
 abbrev pub line_goes_on : List (List ℕ) → List ℕ → Bool

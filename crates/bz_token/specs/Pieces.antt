@@ -3,7 +3,7 @@
 -- Begin with `is_piece` and `is_space`.
 use Rattle.std.specs.Prelude.{ℕ, List, [], ◌∷◌, Bool, true, false, not, ◌&&◌, ◌||◌, ◌==◌, bytes_eq}
 use Rattle.std.specs.List.{list_any}
-use Rattle.bz_token.specs.Common.{map_or}
+use Rattle.bz_token.specs.Common.{begins, is_newline, map_or}
 use Rattle.bz_token.specs.Strings.{opens_after, inside, has_break, is_one_string}
 
 -- a string without its prefix: closed, broken off, or open to the end of the text
@@ -15,10 +15,10 @@ abbrev pub is_broken_off : List ℕ → Bool
 is_broken_off text =
     map_or false (λ o. is_one_string o text && has_break o.quotes (inside o text)) (opens_after 0 text)
 
--- a number sign (35) and what follows it on its line, white space at its end too
+-- a number sign (35) and what follows it on its line, white space at its end too (as a token it ends before
+-- that: `is_comment` of `Lexical`)
 abbrev pub is_comment : List ℕ → Bool
-is_comment [] = false
-is_comment (b ∷ bs) = b == 35 && not (list_any (λ c. c == 10) bs)
+is_comment text = begins (λ b. b == 35) text && not (list_any is_newline text)
 
 -- a backslash directly before a newline, or before a carriage return and a newline (92, 10 and 13)
 abbrev pub is_continued : List ℕ → Bool
@@ -39,7 +39,7 @@ is_blank b = b == 32 || b == 9 || b == 13
 
 -- white space; whether newlines are
 abbrev pub is_white : Bool → ℕ → Bool
-is_white newlines b = is_blank b || (newlines && b == 10)
+is_white newlines b = is_blank b || (newlines && is_newline b)
 
 -- a piece that is white space or continues a line
 abbrev pub is_space : Bool → List ℕ → Bool

@@ -11,7 +11,8 @@ use Rattle.bz_token.specs.Common.{first_of, map_or}
 use Rattle.bz_token.specs.Strings.{units}
 use Rattle.bz_token.specs.Pieces.{is_space}
 
--- white space and continued lines; newlines too, where this is inside brackets (`inside`)
+-- White space and continued lines; newlines too, where this is inside brackets (`inside`). Bytes are taken as
+-- `units`, in which a backslash and the newline after it are one.
 abbrev pub is_gap : Bool → List ℕ → Bool
 is_gap inside bytes = list_all (is_space inside) (units bytes)
 
@@ -19,7 +20,7 @@ is_gap inside bytes = list_all (is_space inside) (units bytes)
 abbrev pub begins_gap : Bool → List ℕ → Bool
 begins_gap inside place = map_or false (is_space inside) (first_of (units place))
 
--- a gap, and the token after it
+-- a gap, and the token after it (`is_piece` of `Pieces` is another: there a gap is several pieces)
 pub record Piece : Type 0 where
   pub gap : List ℕ
   pub kind : Kind
@@ -44,7 +45,7 @@ abbrev pub open_after : List ℕ → List Piece → List ℕ
 open_after opened [] = opened
 open_after opened (p ∷ ps) = open_after (open_after_token opened p.text) ps
 
--- the bytes that the pieces stand for
+-- the bytes that the pieces were read from
 abbrev pub bytes_of : List Piece → List ℕ
 bytes_of [] = []
 bytes_of (p ∷ ps) = p.gap ++ (p.text ++ bytes_of ps)

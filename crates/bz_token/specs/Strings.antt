@@ -5,7 +5,7 @@ use Rattle.std.specs.Prelude.{ℕ, ◌+◌, ◌-◌, List, [], ◌∷◌, length
 use Rattle.std.specs.List.{list_any, before_first, starts_with}
 use Rattle.bz_token.specs.declared.scan_string.Quotes.{Quotes}
 use Rattle.bz_token.specs.declared.scan_string.Opening.{Opening}
-use Rattle.bz_token.specs.Common.{begins, map_or}
+use Rattle.bz_token.specs.Common.{begins, is_one_of, map_or}
 use Rattle.bz_token.specs.Groups.{grouped}
 
 -- a text that is this byte alone
@@ -38,7 +38,7 @@ prefixes = [] ∷ codes "r" ∷ codes "b" ∷ codes "rb" ∷ codes "br" ∷ []
 abbrev pub opening : List ℕ → Option Opening
 opening place =
     let prefix = before_first is_quote place in
-    if list_any (bytes_eq prefix) prefixes
+    if is_one_of prefixes prefix
     then opens_after (length prefix) (drop (length prefix) place) else None
 
 -- so many quotes in a row close a string

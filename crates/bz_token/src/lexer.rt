@@ -4,7 +4,6 @@
 ghost use Rattle.std.specs.Prelude.{◌≡◌, ◌≤◌, ◌<◌, ◌+◌, ◌^◌, ◌==◌, ◌⊎◌, ◌↔◌, [], List, ℕ, max, true, false, not, length, take, drop, count_by, map, IfOk, IfErr, IsTrue, Some, None, nat_eq};
 ghost use Rattle.std.specs.Option.{option_eq};
 ghost use Rattle.std.specs.List.{list_any};
-ghost use Rattle.bz_token.specs.Lexical.{is_newline};
 ghost use Rattle.bz_token.specs.Faults.{IsFault};
 ghost use Rattle.bz_token.specs.Brackets.{open_tokens, is_inside};
 ghost use Rattle.bz_token.specs.declared.token.Kind.TheVariants.{Operator};
@@ -14,7 +13,7 @@ ghost use Rattle.bz_token.specs.private.Scans.{opened, bad_fault, misfit_fault, 
 ghost use Rattle.bz_token.specs.private.Steps.{IsGapHere, IsTaken, IsTakenAs, IsRefused};
 ghost use Rattle.bz_token.specs.private.LinesRead.{EndsLine, IsFaultFrom};
 ghost use Rattle.bz_token.specs.private.Progress.{HasRead, HasReadIn, IsTokenHere, Grows, ReadsOn, IsReadTo, IsReadAt, PassesWhite};
-ghost use Rattle.bz_token.specs.Common.{begins};
+ghost use Rattle.bz_token.specs.Common.{begins, is_newline};
 
 use crate::brackets::{Brackets, Misfit, innermost, is_bracket_byte};
 use crate::fault::LexFault;

@@ -6,8 +6,8 @@ ghost use Rattle.std.specs.List.{list_all, prefix_len};
 ghost use Rattle.bz_token.specs.declared.token.Kind.TheVariants.{Operator};
 ghost use Rattle.bz_token.specs.Ends.{stops_at};
 ghost use Rattle.bz_token.specs.private.Keywords.{keyword_len};
-ghost use Rattle.bz_token.specs.Lexical.{operators, keywords, is_octal_digit, are_based, is_number, is_keyword, is_operator_text, is_comment, is_newline};
-ghost use Rattle.bz_token.specs.Common.{begins};
+ghost use Rattle.bz_token.specs.Lexical.{operators, keywords, is_octal_digit, are_based, is_number, is_keyword, is_operator_text, is_comment};
+ghost use Rattle.bz_token.specs.Common.{begins, is_newline};
 ghost use Rattle.bz_token.specs.Pieces.{is_blank};
 
 use memchr::memchr;

@@ -3,7 +3,7 @@
 ghost use Rattle.std.specs.Prelude.{◌≡◌, ◌≤◌, ◌<◌, ◌-◌, ℕ, Some, true, false, length, take, slice_index, IfSome, IfNone};
 ghost use Rattle.std.specs.List.{list_any};
 ghost use Rattle.bz_token.specs.Strings.{is_quote, quote_count, are_two, opening};
-ghost use Rattle.bz_token.specs.Lexical.{is_newline};
+ghost use Rattle.bz_token.specs.Common.{is_newline};
 ghost use Rattle.bz_token.specs.private.Closing.{is_escaped, escape_after, closes, prefix_letters};
 ghost use Rattle.bz_token.specs.declared.scan_string.Escape.TheVariants.{Unescaped};
 

@@ -1,9 +1,8 @@
 -- Blocks: a statement that begins with `def`, `for` or `if` is kept as it was written (this project's own
 -- rule).
 -- Begin with `IsBlockOf`.
--- Of later stops: 8 `Placed`, `column_at`, `line_at`, `opener_of`.
 use Rattle.std.specs.Prelude.{codes, ℕ, ◌+◌, ◌-◌, List, [], ◌∷◌, ◌++◌, map, find, Bool, true, false, not, if◌then◌else◌, ◌≡◌, ◌==◌, ◌&&◌, ◌||◌, nat_lt, Option, Some, None, is_some}
-use Rattle.std.specs.List.{last_or, slice_split, take_while}
+use Rattle.std.specs.List.{slice_split, take_while}
 use Rattle.bz_token.specs.declared.token.Kind.{Kind}
 use Rattle.bz_token.specs.declared.token.Kind.TheVariants.{Keyword, Kept}
 use Rattle.bz_token.specs.Blocks.{opener_of}
@@ -15,7 +14,7 @@ use Rattle.bz_tree.specs.Tree.{leaf, is_operator_item, Statement}
 use Rattle.bz_tree.specs.Kinds.{mark_of}
 use Rattle.bz_tree.specs.Brackets.{leaf_of, end_line, is_line, without_lines}
 use Rattle.bz_tree.specs.Statement.{is_aside, bare_tokens, first_token, last_seen}
-use Rattle.bz_token.specs.Common.{is_filled, map_or}
+use Rattle.bz_token.specs.Common.{is_filled, last_of, map_or}
 
 -- a token of this kind and text begins a block (`opener_of` of bz_token has the words)
 abbrev pub is_block_word_at : Kind → List ℕ → Bool
@@ -32,9 +31,10 @@ is_colon t = is_operator_item (codes ":") (leaf_of t)
 
 -- the last of these tokens is `:`
 abbrev pub ends_open : List Placed → Bool
-ends_open tokens = map_or false is_colon (last_or None tokens)
+ends_open tokens = map_or false is_colon (last_of tokens)
 
 -- The logical lines: what stands between newlines, without comments. A line without tokens is an empty list.
+-- (`lines` of bz_token are those of a file's bytes, each with its newline.)
 abbrev pub logical_lines : List Placed → List (List Placed)
 logical_lines tokens = map bare_tokens (slice_split (λ t. is_line (mark_of t)) tokens)
 
@@ -63,7 +63,7 @@ bad_line columns opens ((t ∷ ts) ∷ lines) =
 abbrev pub block_indent : List Placed → Option ℕ
 block_indent tokens = bad_line (1 ∷ []) false (logical_lines tokens)
 
--- how many brackets are open after a token of this mark
+-- how many brackets are open after a token of this mark (`open_after_token` of bz_token says which)
 abbrev pub depth_after : Mark → ℕ → ℕ
 depth_after (Open shape) depth = depth + 1
 depth_after (Close shape) depth = depth - 1

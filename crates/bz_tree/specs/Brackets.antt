@@ -1,12 +1,11 @@
 -- What a list of tokens is by its brackets, without losing one, and what its brackets are as groups (which
 -- bracket is one: Starlark specification, "Grammar reference"; the groups are this project's own form).
 -- Begin with `AreNested`.
--- Of later stops: 8 `Placed`.
-use Rattle.std.specs.Prelude.{codes, ℕ, List, [], ◌∷◌, ◌++◌, Bool, true, false, if◌then◌else◌, ◌==◌, ◌+◌, ◌≡◌, ◌&&◌, length, map, flat_map, count_by, Option, Some, None}
+use Rattle.std.specs.Prelude.{codes, ℕ, List, [], ◌∷◌, ◌++◌, Bool, true, false, if◌then◌else◌, ◌==◌, ◌+◌, ◌≡◌, ◌&&◌, length, map, flat_map, Option, Some, None}
 use Rattle.std.specs.Str.{bytes_eq}
 use Rattle.std.specs.List.{list_any, before_first}
 use Rattle.bz_token.specs.declared.token.Kind.TheVariants.{Keyword}
-use Rattle.bz_token.specs.Places.{Placed}
+use Rattle.bz_token.specs.Places.{Placed, line_at}
 use Rattle.bz_tree.specs.declared.tree.GroupKind.{GroupKind}
 use Rattle.bz_tree.specs.declared.tree.GroupKind.TheVariants.{Paren}
 use Rattle.bz_tree.specs.declared.tree.kinds.Shape.{Shape}
@@ -35,7 +34,7 @@ is_for_item _ = false
 
 -- the keyword `for` stands before the first comma
 abbrev pub has_for : List Inner → Bool
-has_for owns = list_any is_for_item (flat_map nodes_of (before_first is_comma owns))
+has_for inners = list_any is_for_item (flat_map nodes_of (before_first is_comma inners))
 
 -- a comma as a node; anything else as it is
 abbrev pub as_node : Inner → Inner
@@ -43,8 +42,8 @@ as_node (comma t) = node t.line (leaf_of t)
 as_node x = x
 
 -- what stands in a bracket, its commas as nodes where it has one segment
-abbrev pub own_items : Bool → List Inner → List Inner
-own_items one owns = map (λ own. if one then as_node own else own) owns
+abbrev pub with_comma_nodes : Bool → List Inner → List Inner
+with_comma_nodes one inners = map (λ inner. if one then as_node inner else inner) inners
 
 -- parentheses that are neither a call nor a `load`
 abbrev pub is_paren : GroupKind → Bool
@@ -57,11 +56,11 @@ group_with kind i = group kind (segs_of i.segs) (is_paren kind && (length i.segs
 
 -- the bracket of a kind in which these stand
 abbrev pub group_of : GroupKind → List Inner → Item
-group_of kind owns = group_with kind (inside (own_items (is_one kind) owns))
+group_of kind inners = group_with kind (inside (with_comma_nodes (is_one kind) inners))
 
 -- the line on which a token ends
 abbrev pub end_line : Placed → ℕ
-end_line t = t.line + count_by (λ b. b == 10) t.text
+end_line t = line_at t.line t.text
 
 -- a token that stands alone; none: a bracket or a newline
 abbrev pub alone : Mark → Placed → Option Inner
@@ -70,30 +69,31 @@ alone Comment t = Some (comment t.line t.text)
 alone Plain t = Some (node (end_line t) (leaf_of t))
 alone _ t = None
 
--- Two brackets of one shape, with this between them and `b` directly before, are this node. No segment is
--- empty.
-pub record IsGroup (b : Preceding) (opening : Placed) (owns : List Inner) (closing : Placed)
-    (own : Inner) : Type 0 where
+-- Two brackets of one shape (in tokens that were read they match already, by `fits` of bz_token), with this
+-- between them and `b` directly before, are this node. No segment is empty.
+pub record IsGroup (b : Preceding) (opening : Placed) (inners : List Inner) (closing : Placed)
+    (inner : Inner) : Type 0 where
   pub shape : Shape
   pub kind : GroupKind
   pub opens : mark_of opening ≡ Open shape
   pub closes : mark_of closing ≡ Close shape
-  pub kind_is : kind ≡ group_kind shape b (has_for owns)
-  pub some : no_empty_cell (own_items (is_one kind) owns) ≡ true
-  pub is : own ≡ node closing.line (group_of kind owns)
+  pub kind_is : kind ≡ group_kind shape b (has_for inners)
+  pub some : no_empty_cell (with_comma_nodes (is_one kind) inners) ≡ true
+  pub is : inner ≡ node closing.line (group_of kind inners)
 
 -- The tokens, by their brackets, are these in order, where `b` stands directly before them.
 pub data AreNested : Preceding → List Placed → List Inner → Type 0 where
   no_token : {b : Preceding} → AreNested b [] []
-  single : {b : Preceding} {t : Placed} {ts : List Placed} {own : Inner} {owns : List Inner}
-      → alone (mark_of t) t ≡ Some own → AreNested (preceding b own) ts owns
-      → AreNested b (t ∷ ts) (own ∷ owns)
-  bracket : {b : Preceding} {opening closing : Placed} {inner ts : List Placed}
-      {inside owns : List Inner} {own : Inner}
-      → AreNested Other inner inside → IsGroup b opening inside closing own
-      → AreNested (preceding b own) ts owns → AreNested b (opening ∷ inner ++ closing ∷ ts) (own ∷ owns)
+  single : {b : Preceding} {t : Placed} {ts : List Placed} {inner : Inner} {inners : List Inner}
+      → alone (mark_of t) t ≡ Some inner → AreNested (preceding b inner) ts inners
+      → AreNested b (t ∷ ts) (inner ∷ inners)
+  -- `us` stand between the two brackets
+  bracket : {b : Preceding} {opening closing : Placed} {us ts : List Placed}
+      {within inners : List Inner} {inner : Inner}
+      → AreNested Other us within → IsGroup b opening within closing inner
+      → AreNested (preceding b inner) ts inners → AreNested b (opening ∷ us ++ closing ∷ ts) (inner ∷ inners)
 
--- the mark of a newline
+-- the mark of a newline token (`is_line` of bz_token says the same of its kind)
 abbrev pub is_line : Mark → Bool
 is_line Newline = true
 is_line _ = false

@@ -1,7 +1,6 @@
 -- The statement of a chunk, or its fault, by the chunk's tokens.
 -- Begin with `IsStatementIn`, `IsBlank` and `IsFaultIn`.
--- Of later stops: 8 `AreTokensOf`, `IsFirstFault`, `Placed`.
-use Rattle.std.specs.Prelude.{ℕ, List, Bool, true, false, if◌then◌else◌, ◌≡◌, ◌==◌, Option, Some, None, IsSome, IsNone}
+use Rattle.std.specs.Prelude.{ℕ, List, Bool, true, false, if◌then◌else◌, ◌≡◌, ◌==◌, Option, Some, None, IsSome, IsNone, ⊤}
 use Rattle.bz_token.specs.Places.{Placed}
 use Rattle.bz_token.specs.Reading.{AreTokensOf}
 use Rattle.bz_token.specs.Faults.{IsFirstFault}
@@ -18,7 +17,7 @@ pub record IsPlain (tokens : List Placed) (s : Statement) : Type 0 where
   pub tree : IsStatementOf tokens s
   pub grammar : IsStatement (items_of s.nodes)
 
--- the same, where this is the first token
+-- the line of `indent_fault` (below), where this is the first token
 abbrev pub indent_at : Option Placed → List Placed → Option ℕ
 indent_at None tokens = None
 indent_at (Some t) tokens =
@@ -29,7 +28,7 @@ indent_at (Some t) tokens =
 abbrev pub indent_fault : List Placed → Option ℕ
 indent_fault tokens = indent_at (first_token tokens) tokens
 
--- the statement of such a chunk: a block, or a statement that is none
+-- The statement of these tokens, of which the first begins a block (true) or not.
 abbrev pub IsOneOf : Bool → ℕ → List ℕ → List Placed → Statement → Type 0
 IsOneOf true first bytes tokens s = IsBlockOf first bytes tokens s
 IsOneOf false first bytes tokens s = IsPlain tokens s
@@ -78,6 +77,6 @@ pub record HasTokenFault (first depth : ℕ) (bytes : List ℕ) (fault : ParseFa
 -- The first fault of a chunk: lexical faults come before wrong indents, and these before the grammar. That memory
 -- was refused says nothing of the chunk, so it holds of each; `IsAnswerOf` (bz_engine `File`) leaves it out.
 abbrev pub IsFaultIn : ℕ → ℕ → List ℕ → ParseFault → Type 0
-IsFaultIn first depth bytes (OutOfMemory _) = Unit {0}
+IsFaultIn first depth bytes (OutOfMemory _) = ⊤
 IsFaultIn first depth bytes (Lex fault) = IsFirstFault first depth bytes fault
 IsFaultIn first depth bytes fault = HasTokenFault first depth bytes fault

@@ -12,7 +12,7 @@ use Rattle.bz_tree.specs.Tree.{Item, leaf, group, Segment, Statement, is_rule}
 use Rattle.bz_tree.specs.Kinds.{mark_of, group_kind, is_one}
 use Rattle.bz_tree.specs.Owners.{Inner, node, comma, comment, Inside}
 use Rattle.bz_tree.specs.Cells.{inside, no_empty_cell}
-use Rattle.bz_tree.specs.Brackets.{leaf_of, end_line, preceding, is_for_item, own_items, group_with, without_lines}
+use Rattle.bz_tree.specs.Brackets.{leaf_of, end_line, preceding, is_for_item, with_comma_nodes, group_with, without_lines}
 use Rattle.bz_tree.specs.Statement.{as_rule_call, statement_with}
 
 -- a token that is no bracket, or an opening bracket, what stands in it, and its closing bracket
@@ -48,7 +48,7 @@ own_of Comment t = comment t.line t.text
 own_of _ t = node (end_line t) (leaf_of t)
 
 abbrev pub group_of : GroupKind → List Inner → Item
-group_of kind owns = group_with kind (inside (own_items (is_one kind) owns))
+group_of kind owns = group_with kind (inside (with_comma_nodes (is_one kind) owns))
 
 -- At depth 0 a statement is one segment, and every comment but the suffix stands before it.
 abbrev pub one_segment : List Segment → List (List ℕ) → Segment
@@ -72,7 +72,7 @@ abbrev pub segment_with : Inside → Segment
 segment_with i = with_rule_call (one_segment i.segs i.end)
 
 abbrev pub segment_of : List Inner → Segment
-segment_of owns = segment_with (inside (own_items true owns))
+segment_of owns = segment_with (inside (with_comma_nodes true owns))
 
 -- what stands in a bracket, after `b`
 abbrev mutual
@@ -99,7 +99,7 @@ abbrev mutual
   IsWell b (single t) = is_single (mark_of t) ≡ true
   IsWell b (bracket shape opening inner closing) =
       (mark_of opening ≡ Open shape) × (mark_of closing ≡ Close shape) × AreWell Other inner
-      × (let owns = elems_own Other inner in no_empty_cell false (own_items (is_one (group_kind shape b (has_for owns))) owns) ≡ true)
+      × (let owns = elems_own Other inner in no_empty_cell false (with_comma_nodes (is_one (group_kind shape b (has_for owns))) owns) ≡ true)
 
   pub AreWell : Preceding → Elems → Type 0
   AreWell b no_elems = Unit {0}

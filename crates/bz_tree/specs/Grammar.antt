@@ -4,15 +4,14 @@
 -- left out: a Binary is Unaries with any binary operators between them. Own to this project: an index is one
 -- Test; the condition of an `if`, and what a `for` goes over, is one Binary.
 -- Begin with `IsStatement`.
--- Of later stops: 8 `is_one_of`. It is in bz_token `Lexical`.
 use Rattle.std.specs.Prelude.{codes, ◌≡◌, ℕ, List, [], ◌∷◌, ◌++◌, Bool, true}
 use Rattle.bz_token.specs.declared.token.Kind.{Kind}
 use Rattle.bz_token.specs.declared.token.Kind.TheVariants.{Identifier, Keyword, Integer, String, Operator}
 use Rattle.bz_tree.specs.declared.tree.GroupKind.{GroupKind}
 use Rattle.bz_tree.specs.declared.tree.GroupKind.TheVariants.{Call, RuleCall, Load, Paren, List as ListKind, Index, Dict, ListComp, DictComp}
 use Rattle.bz_tree.specs.Tree.{Item, leaf, group, Items, no_items, item, Segs, no_segs, seg}
-use Rattle.bz_tree.specs.Statement.{augmented}
-use Rattle.bz_token.specs.Lexical.{is_one_of}
+use Rattle.bz_tree.specs.Statement.{assignments}
+use Rattle.bz_token.specs.Common.{is_one_of}
 
 -- `f then g or h` is `(f then g) or h`
 infixr 30 ◌then◌
@@ -70,9 +69,9 @@ maybe f = nothing or f
 abbrev pub each_segment : Nonterminal → Form
 each_segment r = many (segment (the r))
 
--- the prefix operators
-abbrev pub prefix : Form
-prefix = one_of Operator (codes "+" ∷ codes "-" ∷ codes "~" ∷ []) or word (codes "not")
+-- the prefix operators that are no keyword
+abbrev pub prefix_signs : List (List ℕ)
+prefix_signs = codes "+" ∷ codes "-" ∷ codes "~" ∷ []
 
 -- the binary operators that are no keywords
 abbrev pub binary_signs : List (List ℕ)
@@ -81,34 +80,27 @@ binary_signs =
     ∷ codes "&" ∷ codes "<<" ∷ codes ">>" ∷ codes "+" ∷ codes "-" ∷ codes "*" ∷ codes "/" ∷ codes "//"
     ∷ codes "%" ∷ []
 
--- those that are one keyword
-abbrev pub binary_words : List (List ℕ)
-binary_words = codes "or" ∷ codes "and" ∷ codes "in" ∷ []
-
 -- the binary operators, of which `not in` is two tokens
 abbrev pub binary : Form
 binary =
-    one_of Operator binary_signs or one_of Keyword binary_words or word (codes "not") then word (codes "in")
+    one_of Operator binary_signs or one_of Keyword (codes "or" ∷ codes "and" ∷ codes "in" ∷ [])
+    or word (codes "not") then word (codes "in")
 
 -- what may stand before an argument
-abbrev pub star : Form
-star = one_of Operator (codes "*" ∷ codes "**" ∷ [])
+abbrev pub stars : List (List ℕ)
+stars = codes "*" ∷ codes "**" ∷ []
 
--- the assignment operators
-abbrev pub assignment : Form
-assignment = one_of Operator (codes "=" ∷ augmented)
-
--- The table: the production of each nonterminal.
+-- The table: the production of each nonterminal. A statement is `nothing` where it is comment lines alone.
 abbrev pub production : Nonterminal → Form
 production Statement =
-    nothing or the Expression or the Expression then assignment then the Expression
+    nothing or the Expression or the Expression then one_of Operator assignments then the Expression
     or word (codes "load") then bracket Load (segment (any String) then each_segment LoadArgument)
 production LoadArgument = maybe (any Identifier then sign (codes "=")) then any String
 production Expression = the Test then many (sign (codes ",") then the Test)
 production Test =
     the Binary then maybe (word (codes "if") then the Binary then word (codes "else") then the Test)
 production Binary = the Unary then many (binary then the Unary)
-production Unary = many prefix then the Primary
+production Unary = many (one_of Operator prefix_signs or word (codes "not")) then the Primary
 -- an integer takes no `.` directly after it
 production Primary =
     the Operand then many (the Suffix) or any Integer then maybe (the Bracketed then many (the Suffix))
@@ -121,7 +113,7 @@ production Bracketed =
     bracket Call (each_segment Argument) or bracket RuleCall (each_segment Argument)
     or bracket Index (segment (the Subscript))
 production Argument =
-    the Test or any Identifier then sign (codes "=") then the Test or star then the Test
+    the Test or any Identifier then sign (codes "=") then the Test or one_of Operator stars then the Test
 production Entry = the Test then sign (codes ":") then the Test
 production Clauses = the For then many (the For or word (codes "if") then the Binary)
 production For =

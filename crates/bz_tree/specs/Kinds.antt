@@ -1,8 +1,7 @@
 -- What a token is to the brackets, and what kind of group a bracket is (Starlark specification, "Grammar
 -- reference": calls, indexes, lists, dicts, comprehensions). `Shape`, `Mark` and `Preceding` are enums of
--- `src/tree/kinds.rt`; a `Mark` has to do with no target.
+-- `src/tree/kinds.rt`.
 -- Begin with `mark_of` and `group_kind`.
--- Of later stops: 8 `Placed`.
 use Rattle.std.specs.Prelude.{codes, ℕ, List, Bool, true, false, if◌then◌else◌}
 use Rattle.std.specs.Str.{bytes_eq}
 use Rattle.bz_token.specs.declared.token.Kind.{Kind}
@@ -18,7 +17,8 @@ use Rattle.bz_tree.specs.declared.tree.kinds.Mark.TheVariants.{Open, Close, Comm
 use Rattle.bz_tree.specs.declared.tree.kinds.Preceding.{Preceding}
 use Rattle.bz_tree.specs.declared.tree.kinds.Preceding.TheVariants.{Operand, LoadWord, Other}
 
--- what an operator is to the brackets
+-- what an operator is to the brackets (bz_token `Brackets` tells brackets by their bytes, to find which are
+-- open; here a bracket has a shape, which goes into its kind)
 abbrev pub operator_mark : List ℕ → Mark
 operator_mark text =
     if bytes_eq text (codes "(") then Open Round
@@ -41,19 +41,23 @@ kind_mark _ text = Plain
 abbrev pub mark_of : Placed → Mark
 mark_of t = kind_mark t.kind t.text
 
+-- the keyword `load`
+abbrev pub is_load_word : Item → Bool
+is_load_word (leaf Keyword text) = bytes_eq text (codes "load")
+is_load_word _ = false
+
 -- what a node is to a bracket after it: an operand (the bracket is a call or an index), the keyword `load`,
 -- anything else
 abbrev pub after_item : Item → Preceding
 after_item (leaf Identifier text) = Operand
 after_item (leaf Integer text) = Operand
 after_item (leaf String text) = Operand
-after_item (leaf Keyword text) = if bytes_eq text (codes "load") then LoadWord else Other
+after_item (leaf Keyword text) = if is_load_word (leaf Keyword text) then LoadWord else Other
 after_item (leaf _ text) = Other
 after_item (group kind segs one_comma end) = Operand
 
 -- The kind of a bracket, by its shape, what it stands after, and whether it is a comprehension (Starlark
--- specification, "Comprehensions": one expression or entry, and then `for`). The call of a rule is made a
--- `RuleCall` afterwards (`Statement`).
+-- specification, "Comprehensions": one expression or entry, and then `for`).
 abbrev pub group_kind : Shape → Preceding → Bool → GroupKind
 group_kind Round Operand comprehension = Call
 group_kind Round LoadWord comprehension = Load

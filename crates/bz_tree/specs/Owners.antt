@@ -1,13 +1,12 @@
 -- The segments of one bracket, and whose each of its comments is (this project's own rule). Only what stands
 -- in the bracket itself counts: an inner bracket is one node.
 -- Begin with `inside`.
--- Of later stops: 8 `Placed`, `grouped`.
 use Rattle.std.specs.Prelude.{ℕ, List, [], ◌∷◌, ◌++◌, map, flat_map, Bool, true, false, not, if◌then◌else◌, ◌==◌, ◌||◌, length, drop, Option, None, Some}
-use Rattle.std.specs.List.{list_any, list_all, filter, last_or, before_last, after_last}
+use Rattle.std.specs.List.{list_any, list_all, filter, before_last, after_last}
 use Rattle.bz_token.specs.Places.{Placed}
 use Rattle.bz_token.specs.Groups.{grouped}
 use Rattle.bz_tree.specs.Tree.{Item, Segment}
-use Rattle.bz_token.specs.Common.{first_of, is_filled}
+use Rattle.bz_token.specs.Common.{first_of, is_filled, last_of}
 
 -- one of the things that stand in a bracket, and in no bracket within it
 pub data Inner : Type 0 where
@@ -59,16 +58,16 @@ on_own_lines before [] = []
 on_own_lines before (here ∷ rest) =
     (if is_beside before here then [] else texts_of here) ++ on_own_lines (Some here) rest
 
--- A bracket is cut into cells: what stands up to a comma, the comma, and the comment beside it. The last cell
--- has no comma, if more stands after the last one.
+-- A bracket is cut into cells: what stands up to a comma, the comma, and the comment beside it. What stands
+-- after the last comma is a cell too, without a comma.
 abbrev pub cell_goes_on : List Inner → Inner → Bool
-cell_goes_on cell inner = not (list_any is_comma cell) || is_beside (last_or None cell) inner
+cell_goes_on cell inner = not (list_any is_comma cell) || is_beside (last_of cell) inner
 
 -- the cells of a bracket
 abbrev pub cells : List Inner → List (List Inner)
 cells inners = grouped cell_goes_on inners
 
--- a cell from its last node on
+-- a cell from its last node on; the whole cell, where it has no node (`before_last` is empty then)
 abbrev pub from_last_node : List Inner → List Inner
 from_last_node cell = drop (length (before_last is_node cell)) cell
 

@@ -1,6 +1,5 @@
 -- Where the leaves of a `Stmt` stand.
 -- Begin with `spelling` and `HasPlacesIn`.
--- Of later stops: 8 `AreTokensOf`, `Placed`.
 use Rattle.std.specs.Prelude.{◌≡◌, ℕ, List, [], ◌∷◌, ◌++◌, map, Bool, true, false, if◌then◌else◌, Option, Some, None}
 use Rattle.bz_token.specs.declared.token.Kind.TheVariants.{Kept}
 use Rattle.bz_token.specs.Common.{map_or}

@@ -1,21 +1,20 @@
 -- The statement that a list of tokens is: its tree, its class and its lines (this project's own form).
 -- Begin with `IsStatementOf`.
--- Of later stops: 8 `Placed`, `is_one_of`. They are in bz_token `Places` and `Lexical`.
-use Rattle.std.specs.Prelude.{codes, ℕ, List, [], ◌∷◌, ◌++◌, map, Bool, true, false, if◌then◌else◌, ◌≡◌, ◌<◌, ◌^◌, None, Option}
-use Rattle.std.specs.Str.{bytes_eq}
+use Rattle.std.specs.Prelude.{codes, ℕ, List, [], ◌∷◌, ◌++◌, map, Bool, true, false, if◌then◌else◌, ◌≡◌, ◌<◌, ◌^◌, Option}
 use Rattle.bz_token.specs.declared.token.Kind.{Kind}
-use Rattle.bz_token.specs.declared.token.Kind.TheVariants.{Keyword, Operator, Comment as CommentToken, Newline, Kept}
+use Rattle.bz_token.specs.declared.token.Kind.TheVariants.{Comment as CommentToken, Newline, Kept}
 use Rattle.bz_token.specs.Places.{Placed}
 use Rattle.bz_tree.specs.declared.tree.GroupKind.TheVariants.{RuleCall}
 use Rattle.bz_tree.specs.declared.tree.Class.{Class}
 use Rattle.bz_tree.specs.declared.tree.Class.TheVariants.{Load, Assign, Rule, Other, Comment, Block}
 use Rattle.bz_tree.specs.declared.tree.kinds.Preceding.TheVariants.{Other as OtherPreceding}
-use Rattle.bz_tree.specs.Tree.{Item, leaf, group, Segment, Statement, is_rule}
+use Rattle.bz_tree.specs.Tree.{Item, leaf, group, Segment, Statement, is_operator_among, is_rule}
 use Rattle.bz_tree.specs.Owners.{Inner, end_comments, cell_segment}
-use Rattle.bz_tree.specs.Brackets.{AreNested, own_items, end_line, without_lines}
-use Rattle.bz_token.specs.Common.{first_of, map_or}
-use Rattle.bz_token.specs.Lexical.{is_one_of}
-use Rattle.std.specs.List.{list_any, last_or}
+use Rattle.bz_tree.specs.Kinds.{is_load_word}
+use Rattle.bz_tree.specs.Brackets.{AreNested, with_comma_nodes, end_line, without_lines}
+use Rattle.bz_token.specs.Common.{first_of, last_of, map_or}
+use Rattle.bz_token.specs.Lexical.{augmented}
+use Rattle.std.specs.List.{list_any}
 use Rattle.std.specs.Option.{option_or}
 
 -- a call as one of a rule
@@ -24,10 +23,10 @@ as_rule_call (leaf kind text) = leaf kind text
 as_rule_call (group kind segs one_comma end) = group RuleCall segs one_comma end
 
 -- The nodes and comments of a statement, of what stands in it outside brackets: this is one cell, in which a
--- comma is a node; its end comments stand before it too. The call of a rule is a `RuleCall`.
+-- comma is a node; its end comments stand before it too. The call of a rule is made a `RuleCall`.
 abbrev pub segment_of : List Inner → Segment
-segment_of owns =
-    let cell = own_items true owns in
+segment_of inners =
+    let cell = with_comma_nodes true inners in
     let s = cell_segment cell in
     record {
       before = s.before ++ end_comments cell;
@@ -35,21 +34,13 @@ segment_of owns =
       suffix = s.suffix;
     }
 
--- the augmented assignments (Starlark specification, "Assignments")
-abbrev pub augmented : List (List ℕ)
-augmented =
-    codes "+=" ∷ codes "-=" ∷ codes "*=" ∷ codes "/=" ∷ codes "//=" ∷ codes "%=" ∷ codes "&=" ∷ codes "|="
-    ∷ codes "^=" ∷ codes "<<=" ∷ codes ">>=" ∷ []
+-- the assignment operators
+abbrev pub assignments : List (List ℕ)
+assignments = codes "=" ∷ augmented
 
--- `=` or an augmented assignment
+-- an assignment operator
 abbrev pub is_assign : Item → Bool
-is_assign (leaf Operator text) = is_one_of (codes "=" ∷ augmented) text
-is_assign _ = false
-
--- the keyword `load`
-abbrev pub is_load_word : Item → Bool
-is_load_word (leaf Keyword text) = bytes_eq text (codes "load")
-is_load_word _ = false
+is_assign x = is_operator_among assignments x
 
 -- the one node of a block, its text (`Blocks`)
 abbrev pub is_kept : Item → Bool
@@ -83,7 +74,7 @@ first_token tokens = first_of (bare_tokens tokens)
 
 -- the last token, comments not counted
 abbrev pub last_token : List Placed → Option Placed
-last_token tokens = last_or None (bare_tokens tokens)
+last_token tokens = last_of (bare_tokens tokens)
 
 -- the first token or comment
 abbrev pub first_seen : List Placed → Option Placed
@@ -91,7 +82,7 @@ first_seen tokens = first_of (without_lines tokens)
 
 -- the last token or comment
 abbrev pub last_seen : List Placed → Option Placed
-last_seen tokens = last_or None (without_lines tokens)
+last_seen tokens = last_of (without_lines tokens)
 
 -- the line of the first token; comments count only where nothing else is there
 abbrev pub start_of : List Placed → ℕ
@@ -114,9 +105,9 @@ statement_with tokens s = record {
 
 -- The statement of the tokens, by their brackets, its comments with their owners.
 pub record IsStatementOf (tokens : List Placed) (s : Statement) : Type 0 where
-  pub owns : List Inner
-  pub nested : AreNested OtherPreceding (without_lines tokens) owns
-  pub is : s ≡ statement_with tokens (segment_of owns)
+  pub inners : List Inner
+  pub nested : AreNested OtherPreceding (without_lines tokens) inners
+  pub is : s ≡ statement_with tokens (segment_of inners)
 
 -- each token ends on a line that can be counted
 abbrev pub EndsFit : List Placed → Type 0

@@ -3,13 +3,15 @@
 -- Begin with `Statement` and `is_rule`.
 use Rattle.std.specs.Prelude.{codes, ℕ, List, [], ◌∷◌, Bool, true, false, ◌&&◌, Option}
 use Rattle.std.specs.Str.{bytes_eq}
+use Rattle.bz_token.specs.Common.{is_one_of}
 use Rattle.bz_token.specs.declared.token.Kind.{Kind}
 use Rattle.bz_token.specs.declared.token.Kind.TheVariants.{Identifier, Operator}
 use Rattle.bz_tree.specs.declared.tree.GroupKind.{GroupKind}
 use Rattle.bz_tree.specs.declared.tree.GroupKind.TheVariants.{Call, RuleCall}
 use Rattle.bz_tree.specs.declared.tree.Class.{Class}
 
--- Nodes, and lists as a tree holds them (`items_of` and `segs_of` make these of ordinary lists).
+-- Nodes, and lists as a tree holds them: a type of a spec file holds no ordinary list of itself. `items_of`
+-- and `segs_of` make these of ordinary lists, `list_of` and `segments` go back.
 mutual
   -- a node
   pub data Item : Type 0 where
@@ -36,9 +38,9 @@ pub record Segment : Type 0 where
   pub nodes : List Item
   pub suffix : Option (List ℕ)
 
--- A statement: as a segment, its class, the line on which its first token begins and the line on which its
--- last one ends. Comments count for these lines only at the end of a block, and where they are alone: then
--- there are no nodes.
+-- A statement: comments, nodes and suffix as of a segment, its class, the line on which its first token begins
+-- and the line on which its last one ends. Comments count for these lines only at the end of a block, and
+-- where they are alone: then there are no nodes.
 pub record Statement : Type 0 where
   pub before : List (List ℕ)
   pub nodes : List Item
@@ -52,6 +54,11 @@ abbrev pub is_operator_item : List ℕ → Item → Bool
 is_operator_item operator (leaf Operator text) = bytes_eq text operator
 is_operator_item operator _ = false
 
+-- whether a node is one of these operators
+abbrev pub is_operator_among : List (List ℕ) → Item → Bool
+is_operator_among operators (leaf Operator text) = is_one_of operators text
+is_operator_among operators _ = false
+
 -- the brackets of a call: of one that is a rule, or of any other
 abbrev pub is_call : GroupKind → Bool
 is_call Call = true
@@ -59,8 +66,8 @@ is_call RuleCall = true
 is_call _ = false
 
 -- A rule: identifiers joined by dots, one call and nothing more (the word is that of buildozer's README, what
--- is one is this project's own rule). In a statement that was read this call is a `RuleCall`
--- (`segment_of`, stop 7).
+-- is one is this project's own rule). In a statement that was read this call is a `RuleCall` (`segment_of` of
+-- `Statement`).
 abbrev mutual
   -- from the start, and after a dot
   pub is_rule : List Item → Bool

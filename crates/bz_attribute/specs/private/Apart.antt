@@ -2,7 +2,7 @@
 use Rattle.std.specs.Prelude.{ℕ, ◌≡◌, List, ◌∷◌, ◌++◌, true, false}
 use Rattle.std.specs.List.{list_all, list_any}
 use Rattle.bz_label.specs.Labels.{is_slash}
-use Rattle.bz_label.specs.Values.{is_plain}
+use Rattle.bz_label.specs.Literals.{is_plain}
 
 -- What stands between two quotes and a word end in the same bytes, and the bytes before these differ. None of them is a
 -- slash, and in the literal each stands for itself.

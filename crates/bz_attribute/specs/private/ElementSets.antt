@@ -7,7 +7,7 @@ use Rattle.bz_label.specs.Labels.{Package}
 use Rattle.bz_label.specs.declared.arguments.Chosen.{Chosen}
 use Rattle.bz_label.specs.declared.arguments.Chosen.TheVariants.{All, Values}
 use Rattle.bz_attribute.specs.Effects.{is_chosen}
-use Rattle.bz_attribute.specs.Lists.{same}
+use Rattle.bz_label.specs.Same.{same}
 use Rattle.bz_attribute.specs.declared.word_set.WordSet.{WordSet}
 
 -- a chosen element is the same label as the text

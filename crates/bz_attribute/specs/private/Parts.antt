@@ -8,6 +8,7 @@ use Rattle.bz_tree.specs.Tree.{Item, leaf, Segment}
 use Rattle.bz_label.specs.Labels.{Package}
 use Rattle.bz_attribute.specs.Elements.{ForRest, ListRest, elements_left, found_rest, rest_parts, value_parts}
 use Rattle.bz_attribute.specs.Lists as lists
+use Rattle.bz_attribute.specs.ListWalk as walk
 
 abbrev pub above_len : List RowPart → ℕ
 above_len (above text ∷ ps) = suc (above_len ps)
@@ -93,7 +94,7 @@ may_be_in_sum (a_token kind text) = lists.may_be_in_sum (leaf kind text)
 may_be_in_sum _ = true
 
 abbrev pub is_plus : RowPart → Bool
-is_plus (a_token kind text) = lists.is_plus (leaf kind text)
+is_plus (a_token kind text) = walk.is_plus (leaf kind text)
 is_plus _ = false
 
 abbrev pub opens_list : RowPart → Bool

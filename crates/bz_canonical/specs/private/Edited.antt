@@ -1,5 +1,5 @@
 -- Lists of strings of which some elements go or become another (this project's own rule), for private clauses.
-use Rattle.std.specs.Prelude.{◌≡◌, ◌<◌, ℕ, List, [], ◌∷◌, ◌++◌, Bool, true, false, ◌&&◌, ◌||◌, not, if◌then◌else◌, Option, None, Some, flat_map, length, nat_le}
+use Rattle.std.specs.Prelude.{◌≡◌, ◌<◌, ℕ, List, [], ◌∷◌, ◌++◌, Bool, true, false, ◌&&◌, ◌||◌, not, if◌then◌else◌, Option, flat_map, length, nat_le}
 use Rattle.std.specs.List.{list_any}
 use Rattle.bz_token.specs.Common.{is_empty}
 use Rattle.bz_token.specs.declared.token.Kind.TheVariants.{String}
@@ -16,38 +16,55 @@ use Rattle.bz_canonical.specs.Canonical.{argument_lines}
 use Rattle.bz_canonical.specs.declared.edited.EditedList.{EditedList}
 use Rattle.bz_canonical.specs.declared.edited.EditedList.TheVariants.{Unchanged, Written}
 use Rattle.bz_canonical.specs.declared.edited.ListEdit.{ListEdit}
-use Rattle.bz_canonical.specs.declared.edited.NewString.{NewString}
+use Rattle.bz_canonical.specs.declared.edited.Becomes.{Becomes}
+use Rattle.bz_canonical.specs.declared.edited.Becomes.TheVariants.{Kept, Gone, Other}
 use Rattle.bz_canonical.specs.declared.edited.Passed.{Passed}
 use Rattle.bz_canonical.specs.declared.edited.PassedList.{PassedList}
 use Rattle.bz_canonical.specs.declared.lists.ReadElement.{ReadElement}
 use Rattle.bz_canonical.specs.declared.arguments.Pending.{Pending}
+use Rattle.bz_rule.specs.declared.forms.AttributeValues.{AttributeValues}
 use Rattle.bz_canonical.specs.private.Added.{IsListAlone, is_word, list_arg}
 use Rattle.bz_canonical.specs.private.Elements.{ArePassed, Element, IsElementRead, IsLast, closing, are_broken, element_lines, element_list}
 use Rattle.bz_canonical.specs.private.Arguments.{IsHeadRead}
 use Rattle.bz_canonical.specs.private.Pendings.{IsPending}
 
 -- the string is exactly the new value
-abbrev pub is_new : Option NewString → List ℕ → Bool
-is_new None token = false
-is_new (Some new) token = is_text new.value.now (value_of token)
+abbrev pub is_new : Becomes → List ℕ → Bool
+is_new (Other new) token = is_text new.value.now (value_of token)
+is_new _ token = false
 
--- it equals the word, and is not exactly what it would become
+-- it equals one of the words, and is not exactly what it would become
 abbrev pub is_meant : Package → ListEdit → List ℕ → Bool
-is_meant home edit token = is_word home edit.word.now token && not (is_new edit.new token)
+is_meant home edit token = is_word home edit.words.now token && not (is_new edit.becomes token)
 
 abbrev pub have_meant : Package → ListEdit → List Element → Bool
 have_meant home edit es = list_any (λ e. is_meant home edit e.token) es
 
--- what an element that is meant becomes, which keeps its comments, or nothing
-abbrev pub become : Option NewString → Element → List Element
-become None e = []
-become (Some new) e = record e { token = quoted new.value.now } ∷ []
+-- what an element that is meant becomes, or another
+abbrev pub becomes_by : ListEdit → Bool → Becomes
+becomes_by edit meant = if meant then edit.becomes else Kept
+
+-- another string keeps the comments
+abbrev pub become : Becomes → Element → List Element
+become Kept e = e ∷ []
+become Gone e = []
+become (Other new) e = record e { token = quoted new.value.now } ∷ []
 
 abbrev pub edited_one : Package → ListEdit → Element → List Element
-edited_one home edit e = if is_meant home edit e.token then become edit.new e else e ∷ []
+edited_one home edit e = become (becomes_by edit (is_meant home edit e.token)) e
 
 abbrev pub edited : Package → ListEdit → List Element → List Element
 edited home edit es = flat_map (edited_one home edit) es
+
+-- edits by which the elements that equal one of the values stay, or go
+abbrev pub keeping : AttributeValues → ListEdit
+keeping sought = record { attr = sought.attr; words = sought.values; becomes = Kept }
+
+abbrev pub removing : AttributeValues → ListEdit
+removing sought = record { attr = sought.attr; words = sought.values; becomes = Gone }
+
+abbrev pub none_passed : Pending → Passed
+none_passed at = record { at = at; one = false; meant = false; left = false; broken = false }
 
 -- one was passed more, and one is left more, which has a comment or none
 abbrev pub one_more : Passed → Pending → Bool → Bool → Passed
@@ -78,6 +95,7 @@ pub record AreElementsEdited (home : Package) (edit : ListEdit) (text inside old
   pub lines : Bool
   pub edited : (front : List ℕ) → text ≡ front ++ inside → AreEdited home edit lines (old ++ front) inside buffer list.passed
   pub ends : list.passed.at.rest.now ≡ closing lines ++ list.end.now
+  pub starts : (front : List ℕ) → text ≡ front ++ inside → list.start ≡ length (old ++ front)
 
 -- an argument of the name, whose lines are the text
 pub record IsListEdited (depth : ℕ) (home : Package) (edit : ListEdit) (text old buffer : List ℕ) (list : PassedList) : Type 0 where
@@ -88,9 +106,9 @@ pub record IsListEdited (depth : ℕ) (home : Package) (edit : ListEdit) (text o
   pub last : IsLast list.end.now
 
 -- what follows elements is written, which stand on lines after what was in the buffer: the list is then as it is laid out
-abbrev pub EndsList : PassedList → ℕ → List ℕ → List ℕ → Type 0
-EndsList list start old new =
-    (front : List ℕ) (es : List Element) → length front ≡ start → is_empty es ≡ false → list.passed.broken ≡ are_broken es → old ≡ front ++ element_lines (respell String) es
+abbrev pub EndsList : PassedList → List ℕ → List ℕ → Type 0
+EndsList list old new =
+    (front : List ℕ) (es : List Element) → length front ≡ list.start → is_empty es ≡ false → list.passed.broken ≡ are_broken es → old ≡ front ++ element_lines (respell String) es
     → (all : List ℕ) × (bytes_of (item_pieces Broken 1 Closed (element_list es)) ≡ 91 ∷ all) × (new ≡ front ++ (all ++ list.end.now))
 
 -- the argument of elements that are left, or none

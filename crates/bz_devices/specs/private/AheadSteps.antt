@@ -4,7 +4,8 @@ use Rattle.bz_token.specs.Chunks.{chunks}
 use Rattle.bz_token.specs.Cuts.{EndsBefore, IsLonger, first_line, ends_in_newline}
 use Rattle.bz_token.specs.CutterState.{IsAfter}
 use Rattle.bz_token.specs.declared.cutter.Cutter.{Cutter}
-use Rattle.bz_devices.specs.Ahead.{Ahead, MayFollow}
+use Rattle.bz_devices.specs.Device.{MayFollow}
+use Rattle.bz_devices.specs.Ahead.{Ahead}
 use Rattle.bz_devices.specs.declared.input.ReadFault.{ReadFault}
 use Rattle.bz_devices.specs.declared.input.ReadFault.TheVariants.{OutOfMemory as no_bytes, ReadFailed as Failed, InputTooLong as TooManyReads}
 use Rattle.bz_devices.specs.declared.ahead.ChunkFault.{ChunkFault}
@@ -42,7 +43,7 @@ GoesAfter ahead n = IsTrue ahead.ended → 0 < length (drop n ahead.bytes)
 -- The first n bytes are a part of the chunk, which goes on after them. Where nothing follows, they are the chunk.
 pub record IsBegun (ahead : Ahead) (n : ℕ) : Type 0 where
   pub last : 0 < n → chunks (take n ahead.bytes) ≡ take n ahead.bytes ∷ []
-  pub longer : (rest : List ℕ) → MayFollow ahead rest → 0 < length (drop n ahead.bytes ++ rest) → IsLonger (take n ahead.bytes) (drop n ahead.bytes ++ rest)
+  pub longer : (rest : List ℕ) → MayFollow ahead.ended rest → 0 < length (drop n ahead.bytes ++ rest) → IsLonger (take n ahead.bytes) (drop n ahead.bytes ++ rest)
 
 -- The chunk goes on after the first n bytes, which the cutter has read.
 pub record GoesOn (cutter : Cutter) (ahead : Ahead) (n : ℕ) : Type 0 where
@@ -51,7 +52,7 @@ pub record GoesOn (cutter : Cutter) (ahead : Ahead) (n : ℕ) : Type 0 where
 
 -- The first n bytes are the chunk, whatever follows.
 abbrev pub EndsAt : Ahead → ℕ → Type 0
-EndsAt ahead n = (rest : List ℕ) → MayFollow ahead rest → EndsBefore (take n ahead.bytes) (drop n ahead.bytes ++ rest)
+EndsAt ahead n = (rest : List ℕ) → MayFollow ahead.ended rest → EndsBefore (take n ahead.bytes) (drop n ahead.bytes ++ rest)
 
 -- The next chunk ends after the first n bytes. Where that is 0, nothing is left of the input.
 pub record IsEnd (ahead : Ahead) (n : ℕ) : Type 0 where

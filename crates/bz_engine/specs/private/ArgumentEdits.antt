@@ -1,7 +1,6 @@
 -- What a command makes of the lines of an argument, for private clauses.
-use Rattle.std.specs.Prelude.{◌≡◌, ℕ, List, [], ◌∷◌, ◌++◌, Bool, false, true, None}
+use Rattle.std.specs.Prelude.{◌≡◌, ℕ, List, [], ◌++◌, Bool, false, true, None}
 use Rattle.bz_tree.specs.Tree.{Segment}
-use Rattle.bz_attribute.specs.Effects.{argument, list_item, string}
 use Rattle.bz_label.specs.Labels.{Package}
 use Rattle.bz_canonical.specs.Canonical.{AloneLines, AreReadAlone, Between, argument_lines}
 use Rattle.bz_canonical.specs.declared.edited.EditedList.{EditedList}
@@ -12,10 +11,6 @@ use Rattle.bz_engine.specs.declared.argument.EditedArgument.TheVariants.{Unchang
 use Rattle.bz_engine.specs.private.Found.{told_line}
 use Rattle.bz_token.specs.Common.{is_empty}
 
--- the argument of one value that `add` adds where none has its name
-abbrev pub list_argument : List ℕ → List ℕ → Segment
-list_argument attr value = argument attr (list_item (string value ∷ []) ∷ [])
-
 -- The command changes these arguments into those that have these lines: into some, unless they may go.
 pub record ChangesArgs (command : Command) (home : Package) (may_go : Bool) (args : List Segment) (lines : List ℕ) : Type 0 where
   pub told : args_done command home args ≡ told_line true None
@@ -23,8 +18,8 @@ pub record ChangesArgs (command : Command) (home : Package) (may_go : Bool) (arg
   pub lines_are : lines ≡ argument_lines (args_after command home args)
 
 -- It adds an argument to those of which none has its name.
-abbrev pub AddsArgument : Command → List ℕ → Type 0
-AddsArgument command lines = (home : Package) → ChangesArgs command home false [] lines
+abbrev pub AddsArgument : Command → Package → List ℕ → Type 0
+AddsArgument command home lines = ChangesArgs command home false [] lines
 
 -- what the command makes of the arguments at a place that are read of its lines alone
 abbrev pub EditsLines : ℕ → Command → Package → Between → EditedArgument → Type 0

@@ -10,7 +10,8 @@ use Rattle.bz_engine.specs.declared.report.SyntaxFault.{SyntaxFault}
 use Rattle.bz_engine.specs.File.{IsAnswerOf}
 use Rattle.bz_passes.specs.Passes.{Slot}
 use Rattle.bz_passes.specs.Exchange.{Fits, IsLeftBy, slot_after}
-use Rattle.bz_engine.specs.Language.{meaning, changes, fails_on}
+use Rattle.bz_engine.specs.Language.{meaning}
+use Rattle.bz_engine.specs.Failing.{changes, fails_on}
 use Rattle.bz_engine.specs.Outcome.{Run, is_query, text_after, failures, some_failure}
 use Rattle.bz_engine.specs.Progress.{Progress, IsKeptOf, last_class, text_following}
 
@@ -47,7 +48,7 @@ IsEdited run cs statements chunk old new before after Done = IsDone run cs state
 IsEdited run cs statements chunk old new before after (Faulty fault) = IsFaulty run.max_depth chunk fault old new before after
 IsEdited run cs statements chunk old new before after (Failed message) = IsFailed run chunk message old new before after
 
--- the same, whatever chunks were done before
+-- a chunk is edited so, whatever chunks were done before
 abbrev pub EditsChunk : Run → List ℕ → Progress → Progress → List ℕ → List ℕ → Edited → Type 0
 EditsChunk run chunk old new before after edited =
     (cs : List (List ℕ)) (statements : List Statement) → IsKeptOf run cs statements old → IsEdited run cs statements chunk old new before after edited

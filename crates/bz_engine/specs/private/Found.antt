@@ -9,7 +9,8 @@ use Rattle.bz_layout.specs.Layout.{layout_text}
 use Rattle.bz_attribute.specs.declared.done.Done.{Done}
 use Rattle.bz_attribute.specs.declared.done.Note.{Note}
 use Rattle.bz_attribute.specs.Texts.{shown_text}
-use Rattle.bz_engine.specs.Language.{fails, meaning, note_told}
+use Rattle.bz_engine.specs.Language.{meaning}
+use Rattle.bz_engine.specs.Failing.{fails, note_told}
 use Rattle.bz_label.specs.Labels.{Package, Target}
 use Rattle.bz_attribute.specs.Rules.{Rule, first_named, kind_text, rule_of}
 use Rattle.bz_attribute.specs.Marks.{marks}
@@ -74,7 +75,7 @@ pub record IsFound (depth : ℕ) (found : Found) (s : Statement) : Type 0 where
   pub has : IfSome (option_map between found.place) (HasPlace depth found.attr.now s)
   pub spanned : IsTrue found.chunk.noted → HasNotedSpans depth found s
 
--- the same, where the chunk begins on this line
+-- the chunk is that of a statement, where it begins on this line
 pub record IsFoundOn (depth line : ℕ) (found : Found) (s : Statement) : Type 0 where
   pub is : IsFound depth found s
   pub read : IsStatementIn line depth found.chunk.chunk.now s

@@ -6,7 +6,8 @@ use Rattle.bz_label.specs.Labels.{Package}
 use Rattle.bz_canonical.specs.Canonical.{HasName}
 use Rattle.bz_passes.specs.Asked.{asked_by}
 use Rattle.bz_passes.specs.Exchange.{IsPassedBy}
-use Rattle.bz_engine.specs.Language.{meaning, changes, fails_on}
+use Rattle.bz_engine.specs.Language.{meaning}
+use Rattle.bz_engine.specs.Failing.{changes, fails_on}
 use Rattle.bz_engine.specs.Outcome.{Script}
 
 -- each target asks for a name

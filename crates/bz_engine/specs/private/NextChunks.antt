@@ -45,7 +45,7 @@ pub record IsKnownEdited (run : Run) (found : Found) (old new : Progress) (befor
   pub len_is : next.len ≡ length found.chunk.chunk.now
   pub edited_is : next.edited ≡ edited_of scripted
 
--- the same of a session
+-- the first chunk ahead of a session is done
 abbrev pub IsNextEdited : SessionValue → SessionValue → List ℕ → List ℕ → NextChunk → Type 0
 IsNextEdited old new before after next = IsFirstEdited (run_in old) old.options.max_statement new.ahead old.progress new.progress before after next
 

@@ -5,14 +5,14 @@ use Rattle.bz_engine.specs.declared.report.SyntaxFault.{SyntaxFault}
 use Rattle.bz_passes.specs.Passes.{Changes}
 use Rattle.bz_engine.specs.File.{IsFile}
 use Rattle.bz_engine.specs.Language.{meaning}
-use Rattle.bz_engine.specs.Outcome.{BeginsWith, Run, Told, slots_of, some_failure, text_after, told_of, told_of_failure}
+use Rattle.bz_engine.specs.Outcome.{BeginsWith, MayGoOn, Run, Told, slots_of, some_failure, text_after, told_of, told_of_failure}
 
 -- All executions take place, up to the first fault of the file: failures do not end the run, or there is none.
 pub record IsWholeRun (run : Run) (file text : List ℕ) (told : Told) : Type 0 where
   pub statements : List Statement
   pub fault : Option SyntaxFault
   pub read : IsFile run.max_depth file statements fault
-  pub none_fails : run.keep_going ≡ false → some_failure run.home run.passes statements ≡ false
+  pub none_fails : MayGoOn run statements
   pub text_is : text ≡ text_after run.home run.passes statements
   pub changed : (told.changed ≡ true) ↔ Changes (meaning run.home) run.passes (slots_of statements)
   pub told_is : told ≡ told_of run.home run.passes statements fault told.changed

@@ -2,8 +2,7 @@
 -- Begin with `asked_names` and `IsSealedRule`.
 use Rattle.std.specs.Prelude.{◌≡◌, ◌≤◌, ◌⊎◌, ℕ, Bool, false, true, ◌&&◌, if◌then◌else◌, List, [], ◌∷◌, ◌++◌, length, Option, None, Some, codes, nat_le, option_and_then, unwrap_or}
 use Rattle.std.specs.List.{list_all}
-use Rattle.bz_token.specs.Common.{map_or}
-use Rattle.bz_token.specs.Lexical.{is_one_of}
+use Rattle.bz_token.specs.Common.{map_or, is_one_of}
 use Rattle.bz_tree.specs.Tree.{Segment, Statement}
 use Rattle.bz_canonical.specs.SealedRules.{are_alike}
 use Rattle.bz_passes.specs.Passes.{Pass}

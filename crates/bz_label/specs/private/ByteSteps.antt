@@ -1,7 +1,7 @@
 -- For private clauses alone: the bytes of a text, or of a literal's value, that are left to read.
 use Rattle.std.specs.Prelude.{ℕ, ◌==◌, ◌≡◌, ◌<◌, ◌-◌, length, drop, get_or, bytes_eq, List, [], ◌∷◌, ◌++◌, Bool, true, not, ◌&&◌, if◌then◌else◌, Option, Some, None, is_some}
 use Rattle.std.specs.List.{list_all}
-use Rattle.bz_label.specs.Values.{is_plain}
+use Rattle.bz_label.specs.Literals.{is_plain}
 use Rattle.bz_label.specs.private.ValueSteps.{inner_value, taken}
 use Rattle.bz_label.specs.declared.bytes.Bytes.{Bytes}
 use Rattle.bz_label.specs.declared.bytes.Bytes.TheVariants.{Plain, Inner}

@@ -3,7 +3,8 @@ use Rattle.std.specs.Prelude.{ℕ, nat_eq, ◌==◌, List, [], ◌∷◌, length
 use Rattle.std.specs.List.{concat, starts_with}
 use Rattle.bz_token.specs.Groups.{grouped}
 use Rattle.bz_token.specs.Strings.{is_quote}
-use Rattle.bz_label.specs.Values.{is_plain, escape_value}
+use Rattle.bz_label.specs.Values.{escape_value}
+use Rattle.bz_label.specs.Literals.{is_plain}
 
 -- What stands between a literal's quotes is units. An escape is one: a backslash takes the byte after it, and a carriage
 -- return also the newline after that. A carriage return and a newline are one. Any other byte is one.

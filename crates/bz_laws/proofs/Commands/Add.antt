@@ -6,7 +6,8 @@ use Rattle.bz_attribute.specs.Rules.{is_named, value}
 use Rattle.bz_attribute.specs.Lists.{is_attribute, parts, with_value}
 use Rattle.bz_attribute.specs.ListWalk.{edit_first_part}
 use Rattle.bz_attribute.specs.Effects.{has, list_item}
-use Rattle.bz_rule.specs.Add.{add, new_elements, with_added, fresh, is_fresh}
+use Rattle.bz_rule.specs.Add.{add}
+use Rattle.bz_rule.specs.AddByValue.{new_elements, with_added, fresh, is_fresh}
 use Rattle.bz_rule.proofs.Adds.{add_is}
 use Rattle.bz_rule.proofs.Arguments.{same_bytes}
 use Rattle.bz_rule.specs.declared.command.Action.TheVariants.{Add}

@@ -4,7 +4,8 @@ use Rattle.bz_tree.specs.Tree.{Segment, Statement}
 use Rattle.bz_label.specs.Labels.{Package}
 use Rattle.bz_rule.specs.declared.command.Action.TheVariants.{Delete}
 use Rattle.bz_attribute.specs.Rules.{rule_of}
-use Rattle.bz_attribute.specs.Effects.{done, holds_rule, with_args}
+use Rattle.bz_attribute.specs.Effects.{holds_rule, with_args}
+use Rattle.bz_attribute.specs.Reports.{done}
 use Rattle.bz_rule.specs.Commands.{after}
 use Rattle.bz_laws.proofs.Keeps.{Keeps, SlotFormed}
 use Rattle.bz_laws.proofs.Rebuilt.{holds_after}

@@ -11,7 +11,8 @@ use Rattle.bz_attribute.specs.Rules.{first_named, is_named, value, string_value}
 use Rattle.bz_attribute.specs.Lists.{with_value, is_attribute, parts, equals}
 use Rattle.bz_attribute.specs.ListWalk.{edit_first_part}
 use Rattle.bz_attribute.specs.Effects.{edit_first, filtered, has, list_item, unchosen, is_chosen}
-use Rattle.bz_rule.specs.Move.{arrivals, elements_of, move, move_note, moves, put_in}
+use Rattle.bz_rule.specs.Move.{arrivals, elements_of, move, move_note, put_in}
+use Rattle.bz_rule.specs.Reports.{moves}
 use Rattle.bz_rule.specs.private.Steps.{moved}
 use Rattle.bz_rule.proofs.Moves.{move_is}
 use Rattle.bz_rule.proofs.Arguments.{attribute_named}

@@ -9,9 +9,11 @@ use Rattle.bz_label.specs.Labels.{Package}
 use Rattle.bz_rule.specs.declared.commands.field.Field.{Field}
 use Rattle.bz_rule.specs.declared.commands.field.Field.TheVariants.{ValueOf}
 use Rattle.bz_rule.specs.declared.command.Action.TheVariants.{Print}
-use Rattle.bz_rule.specs.Print.{field_mentions, field_name, field_text, fields_of, missing, printed, prints, value_text}
+use Rattle.bz_rule.specs.Print.{field_mentions, field_name, field_text, fields_of, missing, value_text}
+use Rattle.bz_rule.specs.Reports.{printed, prints}
 use Rattle.bz_attribute.specs.Rules.{Rule, rule_of, value}
-use Rattle.bz_attribute.specs.Effects.{with_args, done}
+use Rattle.bz_attribute.specs.Effects.{with_args}
+use Rattle.bz_attribute.specs.Reports.{done}
 use Rattle.bz_attribute.specs.declared.done.Note.TheVariants.{Missing}
 use Rattle.bz_laws.specs.Aside.{IsAside}
 use Rattle.bz_laws.proofs.Keeps.{Keeps}

@@ -9,8 +9,10 @@ use Rattle.bz_label.specs.declared.arguments.Chosen.TheVariants.{Values}
 use Rattle.bz_rule.specs.declared.command.Action.TheVariants.{Remove}
 use Rattle.bz_attribute.specs.Rules.{is_named, value}
 use Rattle.bz_attribute.specs.Lists.{edit_parts, is_attribute, parts, with_value}
-use Rattle.bz_attribute.specs.Effects.{done, filtered, loses_all, unchosen}
-use Rattle.bz_rule.specs.Remove.{goes_with_all, remove, removes}
+use Rattle.bz_attribute.specs.Effects.{filtered, loses_all, unchosen}
+use Rattle.bz_attribute.specs.Reports.{done}
+use Rattle.bz_rule.specs.Remove.{goes_with_all, remove}
+use Rattle.bz_rule.specs.Reports.{removes}
 use Rattle.bz_laws.specs.Aside.{IsAside}
 use Rattle.bz_rule.proofs.PartLaws.{parts_edited}
 use Rattle.bz_rule.proofs.Arguments.{same_bytes, value_put}

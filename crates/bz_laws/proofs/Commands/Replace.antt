@@ -8,9 +8,12 @@ use Rattle.bz_label.specs.declared.arguments.Attributes.{Attributes}
 use Rattle.bz_label.specs.declared.arguments.Attributes.TheVariants.{Every, Named}
 use Rattle.bz_rule.specs.declared.command.Action.TheVariants.{Replace}
 use Rattle.bz_attribute.specs.Rules.{is_text, string_value, value}
-use Rattle.bz_attribute.specs.Lists.{edit_parts, equals, is_attribute, parts, same}
-use Rattle.bz_attribute.specs.Effects.{done, string_item}
-use Rattle.bz_rule.specs.Replace.{is_replaced, replaced, replaced_in, replace, replaces}
+use Rattle.bz_attribute.specs.Lists.{edit_parts, equals, is_attribute, parts}
+use Rattle.bz_label.specs.Same.{same}
+use Rattle.bz_attribute.specs.Effects.{string_item}
+use Rattle.bz_attribute.specs.Reports.{done}
+use Rattle.bz_rule.specs.Replace.{is_replaced, replaced, replaced_in, replace}
+use Rattle.bz_rule.specs.Reports.{replaces}
 use Rattle.bz_rule.proofs.Arguments.{same_bytes, value_put}
 use Rattle.bz_laws.proofs.KeepsFirst.{KeepsFirst, keeps_first}
 use Rattle.bz_laws.proofs.KeptArguments.{each_with_value, named_with}

@@ -2,7 +2,7 @@
 
 ghost use Rattle.std.specs.Prelude.{◌≡◌, ◌+◌, not, count_by, ◌++◌, ◌==◌, ◌∷◌, ℕ, List, true, false, []};
 ghost use Rattle.std.specs.List.{list_any};
-ghost use Rattle.bz_token.specs.Lexical.{is_newline};
+ghost use Rattle.bz_token.specs.Common.{is_newline};
 ghost use Rattle.bz_token.specs.Places.{line_at, Placed};
 ghost use Rattle.bz_token.specs.Brackets.{is_inside, is_line};
 ghost use Rattle.bz_token.specs.Reading.{is_gap, Piece, IsReading, open_after, bytes_of, tokens_of, AreTokensOf};

@@ -4,10 +4,14 @@ use Rattle.std.proofs.lemmas.List.{append_cancel_left}
 use Rattle.bz_tree.specs.Tree.{Segment}
 use Rattle.bz_label.specs.Labels.{Package}
 use Rattle.bz_attribute.specs.Rules.{is_named, first_named, value}
-use Rattle.bz_attribute.specs.Lists.{is_attribute, parts, same, with_value}
+use Rattle.bz_attribute.specs.Lists.{is_attribute, parts, with_value}
+use Rattle.bz_label.specs.Same.{same}
 use Rattle.bz_attribute.specs.ListWalk.{edit_first_part}
-use Rattle.bz_attribute.specs.Effects.{argument, done, edit_first, has, list_item, no_list_note}
-use Rattle.bz_rule.specs.Add.{add, add_by_value, adds, new_elements, with_added}
+use Rattle.bz_attribute.specs.Effects.{argument, edit_first, has, list_item, no_list_note}
+use Rattle.bz_attribute.specs.Reports.{done}
+use Rattle.bz_rule.specs.Add.{add}
+use Rattle.bz_rule.specs.AddByValue.{add_by_value, new_elements, with_added}
+use Rattle.bz_rule.specs.Reports.{adds}
 use Rattle.bz_rule.proofs.Adds.{add_is, kept_by_value}
 use Rattle.bz_attribute.specs.declared.done.Note.TheVariants.{NotAList}
 use Rattle.bz_rule.proofs.PartLaws.{edit_head, first_part_stays, parts_first_edited}

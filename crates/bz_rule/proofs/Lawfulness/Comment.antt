@@ -5,13 +5,14 @@ use Rattle.std.proofs.lemmas.Bool.{cases_Bool}
 use Rattle.std.proofs.lemmas.List.{length_push}
 use Rattle.bz_tree.specs.Tree.{Item, leaf, group, Segment, Statement}
 use Rattle.bz_label.specs.Labels.{Package}
-use Rattle.bz_attribute.specs.Rules.{rule_of, is_named, first_named, value, elements}
-use Rattle.bz_attribute.specs.Lists.{equals, may_be_in_sum, is_plus, parts}
-use Rattle.bz_attribute.specs.ListWalk.{edit_list, is_part, parts_from, edit_element, edit_element_from}
+use Rattle.bz_attribute.specs.Rules.{rule_of, is_named, first_named, value}
+use Rattle.bz_attribute.specs.ListWalk.{elements, edit_list, is_part, parts_from, edit_element, edit_element_from, is_plus}
+use Rattle.bz_attribute.specs.Lists.{equals, may_be_in_sum, parts}
 use Rattle.bz_attribute.proofs.ListPieces.{edit_element_is, parts_are}
 use Rattle.bz_attribute.specs.declared.done.Note.{Note}
 use Rattle.bz_attribute.specs.declared.done.Note.TheVariants.{NoAttribute, NoValue}
-use Rattle.bz_attribute.specs.Effects.{done, edit_first, has, holds_rule, absent_note, no_list_note, with_comment}
+use Rattle.bz_attribute.specs.Effects.{edit_first, has, holds_rule, absent_note, no_list_note, with_comment}
+use Rattle.bz_attribute.specs.Reports.{done}
 use Rattle.bz_rule.specs.Comment.{comment_element, comment_line, comment_note, comment_rule, comment_value, no_value_note}
 use Rattle.bz_attribute.proofs.Views.{segments_of}
 use Rattle.bz_label.specs.declared.arguments.Commented.{Commented}

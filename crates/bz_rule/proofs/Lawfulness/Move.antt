@@ -11,8 +11,10 @@ use Rattle.bz_rule.specs.declared.command.Action.TheVariants.{Move}
 use Rattle.bz_attribute.specs.Rules.{first_named, is_named, is_text as is_word, name_of, value}
 use Rattle.bz_attribute.specs.Lists.{edit_parts, with_value}
 use Rattle.bz_attribute.specs.ListWalk.{edit_first_part}
-use Rattle.bz_attribute.specs.Effects.{argument, edit_first, filtered, has, list_item, loses_all, unchosen, is_chosen, chooses}
-use Rattle.bz_rule.specs.Move.{arrivals, elements_of, move, move_note, moves, put_in}
+use Rattle.bz_attribute.specs.Effects.{argument, edit_first, filtered, has, list_item, loses_all, unchosen, is_chosen}
+use Rattle.bz_attribute.specs.Reports.{chooses}
+use Rattle.bz_rule.specs.Move.{arrivals, elements_of, move, move_note, put_in}
+use Rattle.bz_rule.specs.Reports.{moves}
 use Rattle.bz_rule.specs.private.Steps.{moved, moved_where}
 use Rattle.bz_rule.proofs.Moves.{move_is}
 use Rattle.bz_rule.proofs.Arguments.{attribute_named, name_put}

@@ -6,9 +6,10 @@ use Rattle.bz_tree.specs.Tree.{Statement}
 use Rattle.bz_label.specs.Labels.{Package}
 use Rattle.bz_rule.specs.declared.commands.field.Field.{Field}
 use Rattle.bz_rule.specs.declared.command.Action.TheVariants.{Print}
-use Rattle.bz_rule.specs.Print.{field_of, is_field, is_named_field, fields_of, printed, prints}
+use Rattle.bz_rule.specs.Print.{field_of, is_field, is_named_field, fields_of}
+use Rattle.bz_rule.specs.Reports.{printed, prints}
 use Rattle.bz_attribute.specs.Rules.{rule_of}
-use Rattle.bz_attribute.specs.Effects.{done}
+use Rattle.bz_attribute.specs.Reports.{done}
 use Rattle.bz_rule.proofs.Lawful.{Lawful, held}
 use Rattle.std.specs.Str.{is_utf8}
 use Rattle.bz_rule.specs.declared.command.CommandFault.TheVariants.{BadAttribute}

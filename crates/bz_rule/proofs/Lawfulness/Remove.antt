@@ -13,8 +13,10 @@ use Rattle.bz_label.specs.declared.arguments.Chosen.TheVariants.{Values}
 use Rattle.bz_rule.specs.declared.command.Action.TheVariants.{Remove}
 use Rattle.bz_attribute.specs.Rules.{is_named, value}
 use Rattle.bz_attribute.specs.Lists.{edit_parts, is_attribute, parts, with_value}
-use Rattle.bz_attribute.specs.Effects.{chooses, done, filtered, has, is_chosen, loses_all, unchosen}
-use Rattle.bz_rule.specs.Remove.{goes_with_all, remove, removes}
+use Rattle.bz_attribute.specs.Effects.{filtered, has, is_chosen, loses_all, unchosen}
+use Rattle.bz_attribute.specs.Reports.{chooses, done}
+use Rattle.bz_rule.specs.Remove.{goes_with_all, remove}
+use Rattle.bz_rule.specs.Reports.{removes}
 use Rattle.bz_rule.proofs.Kept.{all_stay, all_stay_in, none_left_in, none_passes, none_passes_in}
 use Rattle.bz_rule.proofs.PartLaws.{parts_edited, parts_stay}
 use Rattle.bz_rule.proofs.Arguments.{attribute_named, first_differs, first_stays, value_back, value_put}

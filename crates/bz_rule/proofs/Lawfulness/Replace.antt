@@ -8,9 +8,12 @@ use Rattle.bz_label.specs.declared.arguments.Attributes.{Attributes}
 use Rattle.bz_label.specs.declared.arguments.Attributes.TheVariants.{Every, Named}
 use Rattle.bz_rule.specs.declared.command.Action.TheVariants.{Replace}
 use Rattle.bz_attribute.specs.Rules.{is_text, string_value, value}
-use Rattle.bz_attribute.specs.Lists.{edit_parts, equals, is_attribute, parts, with_value, same}
-use Rattle.bz_attribute.specs.Effects.{done, string_item}
-use Rattle.bz_rule.specs.Replace.{is_replaced, replaced, replaced_in, replace, replaces, replaces_in}
+use Rattle.bz_attribute.specs.Lists.{edit_parts, equals, is_attribute, parts, with_value}
+use Rattle.bz_label.specs.Same.{same}
+use Rattle.bz_attribute.specs.Effects.{string_item}
+use Rattle.bz_attribute.specs.Reports.{done}
+use Rattle.bz_rule.specs.Replace.{is_replaced, replaced, replaced_in, replace}
+use Rattle.bz_rule.specs.Reports.{replaces, replaces_in}
 use Rattle.bz_label.proofs.ReadBack.{quoted_value}
 use Rattle.bz_rule.proofs.Arguments.{attribute_named, first_differs, first_stays, same_bytes, value_back, value_put}
 use Rattle.bz_attribute.proofs.Locals.{edit_local}

@@ -8,8 +8,10 @@ use Rattle.std.proofs.lemmas.List.Splits.{join_with_byte-slice_split}
 use Rattle.bz_tree.specs.declared.tree.GroupKind.TheVariants.{RuleCall}
 use Rattle.bz_tree.specs.Tree.{Item, group, Segment, Statement, segs_of}
 use Rattle.bz_attribute.specs.Rules.{Rule, rule_of, written, kind_text, is_named, first_named, value}
-use Rattle.bz_attribute.specs.Effects.{argument, done, edit_first, has, holds_rule, nodes_of, string}
-use Rattle.bz_rule.specs.Set.{New, NewString, NewNumber, NewConstant, NewStrings, new_of, new_value, is_value, set_in, set, sets, set_if_absent, kind_items, with_kind, sets_kind_of}
+use Rattle.bz_attribute.specs.Effects.{argument, edit_first, has, holds_rule, nodes_of, string}
+use Rattle.bz_attribute.specs.Reports.{done}
+use Rattle.bz_rule.specs.Set.{New, NewString, NewNumber, NewConstant, NewStrings, new_of, new_value, is_value, set_in, set, set_if_absent, kind_items, with_kind}
+use Rattle.bz_rule.specs.Reports.{sets, sets_kind_of}
 use Rattle.bz_rule.specs.private.Steps.{are_strings, kind_after, joined_by_dots}
 use Rattle.bz_attribute.proofs.Views.{segments_of}
 use Rattle.bz_label.proofs.ReadBack.{quoted_value}

@@ -11,7 +11,8 @@ use Rattle.bz_rule.specs.private.StringEdits.{become_all, changes, is_meant, lit
 use Rattle.bz_label.specs.declared.arguments.Attributes.{Attributes}
 use Rattle.bz_label.specs.declared.arguments.Attributes.TheVariants.{Every, Named}
 use Rattle.bz_attribute.specs.Rules.{first_named, is_named, is_text, name_of}
-use Rattle.bz_attribute.specs.Effects.{done, edit_first, filtered}
+use Rattle.bz_attribute.specs.Effects.{edit_first, filtered}
+use Rattle.bz_attribute.specs.Reports.{done}
 use Rattle.bz_attribute.specs.RowPlaces.{argument_parts}
 use Rattle.bz_rule.specs.declared.commands.argument_edits.ArgumentEdit.{ArgumentEdit}
 use Rattle.bz_rule.specs.declared.commands.argument_edits.ArgumentEdit.TheVariants.{Gone, Strings}

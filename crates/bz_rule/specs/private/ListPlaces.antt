@@ -1,6 +1,6 @@
 -- For private clauses alone: where the first list part of an attribute is, what `add` writes for it, and which of the elements that
 -- leave another arrive there.
-use Rattle.std.specs.Prelude.{◌≡◌, ℕ, ◌≤◌, List, [], ◌++◌, true, false, Option, None, Some, ◌-◌, Bool, take, drop, filter}
+use Rattle.std.specs.Prelude.{◌≡◌, ℕ, ◌≤◌, List, [], ◌++◌, true, false, Option, None, Some, ◌-◌, Bool, take, drop, filter, ⊤}
 use Rattle.bz_tree.specs.Rows.{parts_of, RowPart, segs_parts}
 use Rattle.bz_tree.specs.Tree.{Segment, Statement, segs_of}
 use Rattle.bz_label.specs.Labels.{Package}
@@ -8,7 +8,7 @@ use Rattle.bz_attribute.specs.Effects.{has, with_args}
 use Rattle.bz_attribute.specs.Elements.{AreLists, elements_left, IsListIn, IsValueAt, ListRest, rest_parts}
 use Rattle.bz_attribute.specs.Lists.{parts}
 use Rattle.bz_attribute.specs.Rules.{Rule, value}
-use Rattle.bz_rule.specs.Add.{new_elements}
+use Rattle.bz_rule.specs.AddByValue.{new_elements}
 use Rattle.bz_rule.specs.declared.commands.list_place.ListPlace.{ListPlace}
 use Rattle.bz_rule.specs.declared.commands.list_place.ListPlace.TheVariants.{Absent, At, NoList}
 use Rattle.std.specs.List.{All, flat_map}
@@ -19,8 +19,8 @@ use Rattle.bz_rule.specs.private.StringEdits.{is_meant}
 use Rattle.bz_rule.specs.declared.commands.arrivals.Lists.{Lists}
 
 abbrev pub IsInside : ListPlace → ℕ → Type 0
-IsInside Absent n = Unit {0}
-IsInside NoList n = Unit {0}
+IsInside Absent n = ⊤
+IsInside NoList n = ⊤
 IsInside (At from) n = from ≤ n
 
 -- the value has no list part

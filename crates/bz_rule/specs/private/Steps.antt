@@ -9,7 +9,8 @@ use Rattle.bz_label.specs.Labels.{Package}
 use Rattle.bz_label.specs.declared.arguments.Chosen.{Chosen}
 use Rattle.bz_attribute.specs.Rules.{Rule, first_named, is_named, is_text, kind_text, string_value}
 use Rattle.bz_attribute.specs.Effects.{edit_first, filtered, is_chosen, nodes_of, unchosen}
-use Rattle.bz_rule.specs.Move.{arrivals, elements_of, moves, put_in}
+use Rattle.bz_rule.specs.Move.{arrivals, elements_of, put_in}
+use Rattle.bz_rule.specs.Reports.{moves}
 use Rattle.bz_rule.specs.Set.{kind_items}
 
 -- strings with these values, one for each word

@@ -7,7 +7,8 @@ use Rattle.bz_tree.specs.Tree.{leaf, Segment}
 use Rattle.bz_label.specs.Labels.{Package}
 use Rattle.bz_label.specs.Values.{quoted, value_of}
 use Rattle.bz_attribute.specs.Rules.{is_text, only_text, value}
-use Rattle.bz_attribute.specs.Lists.{parts, same}
+use Rattle.bz_attribute.specs.Lists.{parts}
+use Rattle.bz_label.specs.Same.{same}
 use Rattle.bz_attribute.specs.declared.place.Place.{Place}
 use Rattle.bz_rule.specs.declared.commands.string_edit.Meant.{Meant}
 use Rattle.bz_rule.specs.declared.commands.string_edit.Meant.TheVariants.{Any, Word, Words, Unlike}

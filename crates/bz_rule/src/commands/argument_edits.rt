@@ -2,7 +2,7 @@
 
 ghost use Rattle.std.specs.Prelude.{◌≡◌, ◌≤◌, ◌<◌, None as Nothing, is_some, map, length, option_map, IfOk};
 ghost use Rattle.bz_tree.specs.Rows.{part_view};
-ghost use Rattle.bz_attribute.specs.Effects.{done};
+ghost use Rattle.bz_attribute.specs.Reports.{done};
 ghost use Rattle.bz_attribute.specs.RowEdits.{IsRowEdit};
 ghost use Rattle.bz_rule.specs.private.StringEdits.{IsUpTo, literal_of, means, written_to};
 ghost use Rattle.bz_rule.specs.private.ArgumentEdits as spec;
@@ -51,7 +51,8 @@ fn edit_argument<'a>(
     requires { (at < length parts.now) × IsUpTo written.now at }
     ensures within { IfOk result (λ next. (at < next) × (next ≤ length parts.now)) }
     ensures up_to { IfOk result (λ next. IsUpTo written.new next) }
-    ensures edited { IfOk result (λ next. spec.HasEditedOne (spec.edit_by edit.entry) (spec.changes_by edit.entry)
+    ensures edited { IfOk result (λ next. spec.HasEditedOne (spec.edit_by edit.entry)
+        (spec.changes_by edit.entry)
         (map part_view parts.now) at next (is_some written.old) (is_some written.new)
         (written_to written.old (map part_view out.old.items) (map part_view parts.now) at)
         (written_to written.new (map part_view out.new.items) (map part_view parts.now) next)) }
@@ -111,7 +112,8 @@ pub fn edit_strings<'a>(
     parts: &[Part<'a>],
     new: &mut Parts<'a>,
 ) -> Result<Edit, NoMemory>
-    ensures { IfOk result (IsRowEdit (spec.edited_in (means edit.entry) (literal_of edit.entry) attributes.now)
+    ensures { IfOk result (IsRowEdit
+        (spec.edited_in (means edit.entry) (literal_of edit.entry) attributes.now)
         (λ args. done Nothing (spec.changes_in (means edit.entry) attributes.now args))
         (map part_view parts.now) (map part_view new.new.items)) }
 {

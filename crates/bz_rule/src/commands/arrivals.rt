@@ -5,7 +5,7 @@ ghost use Rattle.bz_tree.specs.Rows.{part_view};
 ghost use Rattle.bz_label.specs.LabelSetViews.{has};
 ghost use Rattle.bz_rule.specs.private.ListPlaces.{AreWithin, HaveArrivals};
 ghost use Rattle.bz_rule.specs.private.StringEdits.{means};
-ghost use Rattle.bz_attribute.specs.Lists.{same};
+ghost use Rattle.bz_label.specs.Same.{same};
 ghost use Rattle.bz_label.specs.Values.{value_of};
 ghost use Rattle.bz_token.specs.Common.{map_or};
 

@@ -19,7 +19,8 @@ use bz_tree::Part;
 // What makes way: an element that goes, or its string, which becomes another.
 fn place_in(edit: StringEdit<'_, '_, '_>, element: Element<'_>) -> Place
     requires { element.token < element.to }
-    ensures { result ≡ place_in (literal_of edit.entry) element.entry.from element.entry.token element.entry.to }
+    ensures { result ≡ place_in (literal_of edit.entry)
+        element.entry.from element.entry.token element.entry.to }
 {
     match edit.new() {
         None => Place {
@@ -33,7 +34,7 @@ fn place_in(edit: StringEdit<'_, '_, '_>, element: Element<'_>) -> Place
     }
 }
 
-// What it becomes.
+// Writes the string that an element becomes, if it stays.
 fn push_literal(edit: StringEdit<'_, '_, '_>, out: &mut Parts<'_>) -> Result<(), NoMemory>
     ensures { OnOk result (map part_view out.new.items ≡ map part_view out.old.items
         ++ literal_parts (literal_of edit.entry)) }
@@ -58,7 +59,8 @@ pub fn edit_value<'a>(
     ensures up_to { IfOk result (λ at. IsUpTo written.new at) }
     ensures edited { IfOk result (λ at. (nodes : List Item) (after : List RowPart)
         → drop value (map part_view parts.now) ≡ value_parts nodes after
-        → spec.HasEditedValue (means edit.entry) (literal_of edit.entry) nodes after (drop at (map part_view parts.now))
+        → spec.HasEditedValue (means edit.entry) (literal_of edit.entry) nodes after
+        (drop at (map part_view parts.now))
         (is_some written.old) (is_some written.new)
         (written_to written.old (map part_view out.old.items) (map part_view parts.now) value)
         (written_to written.new (map part_view out.new.items) (map part_view parts.now) at)) }

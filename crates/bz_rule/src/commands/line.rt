@@ -6,7 +6,7 @@ ghost use Rattle.bz_tree.specs.Rows.{above, part_view, parts_of};
 ghost use Rattle.bz_rule.specs.Comment as spec;
 ghost use Rattle.bz_rule.specs.Commands.{args_after, args_done};
 ghost use Rattle.bz_rule.specs.declared.command.Action.TheVariants.{Comment};
-ghost use Rattle.bz_attribute.specs.Effects.{done};
+ghost use Rattle.bz_attribute.specs.Reports.{done};
 ghost use Rattle.bz_attribute.specs.RowEdits.{IsRowEdit, IsWithin, replaced_at};
 ghost use Rattle.bz_attribute.specs.RowPlaces.{IsRuleRow};
 ghost use Rattle.bz_attribute.specs.Rules.{Rule};

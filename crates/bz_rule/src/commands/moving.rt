@@ -3,9 +3,11 @@
 ghost use Rattle.std.specs.Prelude.{◌≡◌, ◌≤◌, ◌++◌, None as Nothing, map, length, IfOk, IfSome, OnOk};
 ghost use Rattle.bz_tree.specs.Rows.{part_view};
 ghost use Rattle.bz_label.specs.declared.arguments.Chosen.{Chosen as Choice};
-ghost use Rattle.bz_attribute.specs.Effects.{done, is_chosen};
+ghost use Rattle.bz_attribute.specs.Effects.{is_chosen};
+ghost use Rattle.bz_attribute.specs.Reports.{done};
 ghost use Rattle.bz_attribute.specs.RowEdits.{IsRowEdit, replaced_at};
 ghost use Rattle.bz_rule.specs.Move as spec;
+ghost use Rattle.bz_rule.specs.Reports.{moves};
 ghost use Rattle.bz_rule.specs.private.ListPlaces.{AreFound, AreWithin, HasPut, parts_at};
 ghost use Rattle.bz_rule.specs.private.Steps as steps;
 ghost use Rattle.bz_rule.specs.private.StringEdits.{is_meant, literal_of, means};
@@ -42,7 +44,7 @@ pub fn move_elements<'a>(
     ensures { IfOk result (IsRowEdit
         (spec.move env.entry.home.now change.entry.old.now change.entry.new.now change.entry.moved.now)
         (λ args. done (spec.move_note change.entry.old.now change.entry.new.now args)
-        (spec.moves env.entry.home.now change.entry.old.now change.entry.moved.now args))
+        (moves env.entry.home.now change.entry.old.now change.entry.moved.now args))
         (map part_view parts.now) (map part_view written.new.items)) }
 {
     let Move { old, new, moved: _ } = change;
@@ -72,7 +74,7 @@ fn move_chosen<'a>(
     requires found { AreFound change.old.now change.new.now lists (map part_view parts.now) }
     ensures { IfOk result (IsRowEdit
         (steps.moved_where env.entry.home.now change.entry.old.now change.entry.new.now change.entry.moved.now)
-        (λ args. done Nothing (spec.moves env.entry.home.now change.entry.old.now change.entry.moved.now args))
+        (λ args. done Nothing (moves env.entry.home.now change.entry.old.now change.entry.moved.now args))
         (map part_view parts.now) (map part_view written.new.items)) }
 {
     match change.moved {
@@ -101,7 +103,7 @@ fn move_meant<'a>(
     ensures { IfOk result (λ e. (moved : Choice) → literal_of edit.entry ≡ Nothing
         → is_meant (means edit.entry) ≡ is_chosen edit.entry.env.home.now moved
         → IsRowEdit (steps.moved_where edit.entry.env.home.now change.entry.old.now change.entry.new.now moved)
-        (λ args. done Nothing (spec.moves edit.entry.env.home.now change.entry.old.now moved args))
+        (λ args. done Nothing (moves edit.entry.env.home.now change.entry.old.now moved args))
         (map part_view parts.now) (map part_view written.new.items) e) }
 {
     let old = argument_place(parts, change.old);

@@ -23,7 +23,8 @@ pub fn write_argument<'a>(
     new: &mut Parts<'a>,
 ) -> Result<(), NoMemory>
     ensures { OnOk result (map part_view new.new.items
-        ≡ segs_parts (segs_of (argument attr.now (spec.new_value (spec.new_of attr.now words.now None)) ∷ []))) }
+        ≡ segs_parts (segs_of (argument attr.now
+        (spec.new_value (spec.new_of attr.now words.now None)) ∷ []))) }
 {
     new.clear();
     begin_argument(attr, new)?;

@@ -1,44 +1,48 @@
 //! `print`: a line with the texts of a rule's fields. bz_rule (`statement_row.rt`) calls `print`, and bz_engine
 //! (`answer.rt`) calls `print_name` for a rule that it does not read.
 
-ghost use Rattle.std.specs.Prelude.{◌≡◌, ◌++◌, ◌∷◌, [], ℕ, List, map, option_map, is_some, IfOk, IfSome, IsTrue, OnOk, bytes_eq, codes, string_bytes, nat_le, ◌==◌, ◌||◌, false, true, None, Some};
+ghost use Rattle.std.specs.Prelude.{◌≡◌, ◌≤◌, ◌++◌, ◌∷◌, [], ℕ, List, length, map, option_map, is_some, IfOk, IfSome, IsTrue, OnOk, bytes_eq, codes, string_bytes, false, true, None, Some};
 ghost use Rattle.std.specs.List.{list_all, list_any};
 ghost use Rattle.bz_tree.specs.Tree.{Item, Statement, items_of};
 ghost use Rattle.bz_tree.specs.declared.tree.GroupKind.TheVariants.{RuleCall};
-ghost use Rattle.bz_tree.specs.Rows.{a_token, items_parts, part_view};
-ghost use Rattle.bz_token.specs.declared.token.Kind.{Kind};
-ghost use Rattle.bz_tree.specs.View.{nodes_view, segs_view};
+ghost use Rattle.bz_tree.specs.Rows.{items_parts, part_view};
+ghost use Rattle.bz_label.specs.Values.{value_of};
 ghost use Rattle.bz_rule.specs.declared.commands.field.Field.TheVariants.{ValueOf};
 ghost use Rattle.bz_layout.specs.Layout.{flat_text};
+ghost use Rattle.bz_attribute.specs.Elements.{ForRest, ForValue};
 ghost use Rattle.bz_attribute.specs.Heads.{IsHeadOf};
 ghost use Rattle.bz_attribute.specs.RowPlaces.{IsRuleRow};
 ghost use Rattle.bz_attribute.specs.Rules.{Rule, name_in, rule_of, string_value};
 ghost use Rattle.bz_attribute.specs.declared.done.Note.TheVariants.{Missing};
 ghost use Rattle.bz_attribute.specs.Texts.{home_text};
 ghost use Rattle.bz_rule.specs.Print as spec;
-ghost use Rattle.bz_rule.specs.private.PrintSteps.{HasPrinted};
+ghost use Rattle.bz_rule.specs.private.PrintSteps.{HasPrinted, HasStrings, is_special, is_name_alone};
+ghost use Rattle.bz_rule.specs.Reports.{prints};
 ghost use Rattle.bz_token.specs.Common.{map_or};
 
 use crate::commands::field::Field;
-use bz_attribute::equals::string_of;
 use bz_attribute::{
-    Done, Env, Executed, Head, Note, elements_at, is_list, only_text, push_home, value_end,
+    Done, Env, Executed, Head, Note, next_element, only_list, only_string, push_home, value_end,
     value_place,
 };
-use bz_label::{Package, Text, plain_text, quote, read_value};
+use bz_label::{Package, Text, quote, read_value};
 use bz_layout::flat_parts;
 use bz_memory::{NoMemory, push_char, push_number, push_str, with_length_of};
-use bz_tree::{GroupKind, Node, Part, Seg, nodes_of_parts};
+use bz_tree::{GroupKind, Part};
 use std::alloc::Global;
+
+// Most lines are no longer, and are made without making room for more.
+const LONG_LINE: &str =
+    "//a/package/of/many/rules:the_name_of_a_rule cc_library [:another_rule //a/package/of/others:one_of_them \
+     //a/third/package:a_rule @a_repository//and/its/package:a_rule]";
 
 /// Prints fields of the rule of this head and these parts, or its name and its kind where none is named; the note names
 /// the first field that is missing.
 pub fn print(env: Env<'_>, fields: &[Field], head: Head<'_>, parts: &[Part<'_>]) -> Executed
     ensures { IfOk result (λ done. (s : Statement) (r : Rule) → IsHeadOf head.entry s
-        → IsRuleRow s r (map part_view parts.now) → done ≡ spec.prints env.entry.home.now fields.now (Some s)) }
+        → IsRuleRow s r (map part_view parts.now) → done ≡ prints env.entry.home.now fields.now (Some s)) }
 {
-    // Most often the name is all that is printed.
-    let mut line = with_length_of(env.alloc, head.name.unwrap_or(""))?;
+    let mut line = with_length_of(env.alloc, LONG_LINE)?;
     let missing = match fields {
         [] => {
             let missing = push_attribute(env, "name", &mut line, head, parts)?;
@@ -67,9 +71,9 @@ pub fn print_name<'t>(
     name: &'t str,
     buffer: &'t mut String,
 ) -> Result<Option<&'t str>, NoMemory>
-    ensures is { IfOk result (λ line. is_some line ≡ spec.is_name_alone fields.now) }
+    ensures is { IfOk result (λ line. is_some line ≡ is_name_alone fields.now) }
     ensures line { IfOk result (λ line. IfSome line (λ text. (s : Statement) (r : Rule) → rule_of s.nodes ≡ Some r
-        → name_in r.args ≡ Some name.now → spec.prints env.entry.home.now fields.now (Some s)
+        → name_in r.args ≡ Some name.now → prints env.entry.home.now fields.now (Some s)
         ≡ record { changed = false; line = Some text.now; note = None })) }
 {
     let [field] = fields else {
@@ -187,48 +191,46 @@ fn push_attribute<'f>(
         push_str(text, "(missing)")?;
         return Ok(Some(attr));
     };
-    push_value(env.alloc, text, &parts[value..value_end(parts, value)])?;
+    push_value(env.alloc, text, parts, value)?;
     Ok(None)
 }
 
-// Writes the value that has these parts.
-fn push_value(alloc: Global, text: &mut String, parts: &[Part<'_>]) -> Result<(), NoMemory>
-    ensures { OnOk result ((value : List Item) → map part_view parts.now ≡ items_parts (items_of value)
-        → string_bytes text.new ≡ string_bytes text.old ++ spec.value_text value) }
-{
-    // Neither one string nor one list: its nodes are not made.
-    if parts.len() > 1 && is_token(&parts[0]) {
-        return push_flat(alloc, text, parts);
-    }
-    let nodes = nodes_of_parts(alloc, parts)?;
-    push_nodes(alloc, text, &nodes, parts)
-}
-
-fn is_token(part: &Part<'_>) -> bool
-    ensures { IsTrue result → (kind : Kind) × (text : List ℕ) × (part_view part.now ≡ a_token kind text) }
-{
-    matches!(part, Part::Token(_, _))
-}
-
-// Writes the value that has these nodes and these parts.
-fn push_nodes(
+// Writes the value that begins at a place.
+fn push_value(
     alloc: Global,
     text: &mut String,
-    value: &[Node<'_>],
     parts: &[Part<'_>],
+    value: usize,
 ) -> Result<(), NoMemory>
-    ensures { OnOk result (map part_view parts.now ≡ items_parts (items_of (nodes_view value.now))
-        → string_bytes text.new ≡ string_bytes text.old ++ spec.value_text (nodes_view value.now)) }
+    requires { value ≤ length parts.now }
+    ensures { OnOk result (ForValue (map part_view parts.now) value (λ nodes after ps.
+        string_bytes text.new ≡ string_bytes text.old ++ spec.value_text nodes)) }
 {
-    if push_string(alloc, text, value)? {
+    if push_strings(alloc, text, parts, value)? {
         return Ok(());
     }
-    match value {
-        [node] if is_list(node) && are_strings(elements_at(node)) => {
-            push_words(alloc, text, elements_at(node))
-        }
-        _ => push_flat(alloc, text, parts),
+    push_flat(alloc, text, &parts[value..value_end(parts, value)])
+}
+
+// Writes the value that begins at a place, where it is one string with a value, or one list of such strings. False,
+// with nothing written: it is neither.
+fn push_strings(
+    alloc: Global,
+    text: &mut String,
+    parts: &[Part<'_>],
+    value: usize,
+) -> Result<bool, NoMemory>
+    requires { value ≤ length parts.now }
+    ensures { IfOk result (λ are. ForValue (map part_view parts.now) value (λ nodes after ps.
+        HasStrings are (string_bytes text.old) (string_bytes text.new) nodes)) }
+{
+    if let Some(literal) = only_string(parts, value) {
+        return push_string(alloc, text, literal);
     }
+    let Some(list) = only_list(parts, value) else {
+        return Ok(false);
+    };
+    push_list(alloc, text, parts, list)
 }
 
 // Writes the value that has these parts as the layout has it on one line.
@@ -240,26 +242,16 @@ fn push_flat(alloc: Global, text: &mut String, parts: &[Part<'_>]) -> Result<(),
     push_str(text, flat.as_str())
 }
 
-// Strings with values.
-fn are_strings(elements: &[Seg<'_>]) -> bool
-    ensures { result ≡ list_all (λ s. is_some (string_value s.nodes)) (segs_view elements.now) }
-{
-    elements.iter().all(|element| string_of(element).is_some())
-}
-
-// Writes what is one string with a value as a word. False: it is not.
-fn push_string(alloc: Global, text: &mut String, nodes: &[Node<'_>]) -> Result<bool, NoMemory>
+// Writes a string with a value as a word. False: it has none.
+fn push_string(alloc: Global, text: &mut String, literal: &str) -> Result<bool, NoMemory>
     ensures word { OnOk result
         (string_bytes text.new
-        ≡ string_bytes text.old ++ map_or [] spec.word_form (string_value (nodes_view nodes.now))) }
-    ensures is { IfOk result (λ is. is ≡ is_some (string_value (nodes_view nodes.now))) }
+        ≡ string_bytes text.old ++ map_or [] spec.word_form (value_of literal.now)) }
+    ensures is { IfOk result (λ is. is ≡ is_some (value_of literal.now)) }
 {
-    let Some(literal) = only_text(nodes) else {
-        return Ok(false);
-    };
     // Most need no copy.
-    if let Some(word) = plain_text(literal) {
-        push_word(alloc, text, word)?;
+    if let Some(word) = bare_word(literal) {
+        push_str(text, word)?;
         return Ok(true);
     }
     let Some(word) = read_value(alloc, literal)? else {
@@ -269,19 +261,75 @@ fn push_string(alloc: Global, text: &mut String, nodes: &[Node<'_>]) -> Result<b
     Ok(true)
 }
 
-// Writes strings in brackets, with a space between them.
-fn push_words(alloc: Global, text: &mut String, list: &[Seg<'_>]) -> Result<(), NoMemory>
-    ensures { OnOk result
-        (string_bytes text.new ≡ string_bytes text.old ++ spec.words_text (segs_view list.now)) }
+// Writes the list whose elements begin at a place, where they are strings with values. False, with nothing written:
+// one is none.
+fn push_list(
+    alloc: Global,
+    text: &mut String,
+    parts: &[Part<'_>],
+    from: usize,
+) -> Result<bool, NoMemory>
+    requires { from ≤ length parts.now }
+    ensures are { IfOk result (λ are. ForRest (map part_view parts.now) from (λ rest after ps.
+        are ≡ list_all (λ s. is_some (string_value s.nodes)) rest.elements)) }
+    ensures words { IfOk result (λ are. IsTrue are → ForRest (map part_view parts.now) from (λ rest after ps.
+        string_bytes text.new ≡ string_bytes text.old ++ spec.words_text rest.elements)) }
+    ensures none { IfOk result (λ are. are ≡ false → string_bytes text.new ≡ string_bytes text.old) }
+{
+    let start = text.len();
+    if push_words(alloc, text, parts, from)? {
+        return Ok(true);
+    }
+    text.truncate(start);
+    Ok(false)
+}
+
+// Writes the elements from a place on in brackets, with a space between them. False: one is no string with a value, and
+// those before it are written.
+fn push_words(
+    alloc: Global,
+    text: &mut String,
+    parts: &[Part<'_>],
+    from: usize,
+) -> Result<bool, NoMemory>
+    requires { from ≤ length parts.now }
+    ensures are { IfOk result (λ are. ForRest (map part_view parts.now) from (λ rest after ps.
+        are ≡ list_all (λ s. is_some (string_value s.nodes)) rest.elements)) }
+    ensures words { IfOk result (λ are. IsTrue are → ForRest (map part_view parts.now) from (λ rest after ps.
+        string_bytes text.new ≡ string_bytes text.old ++ spec.words_text rest.elements)) }
+    ensures begun { OnOk result ((more : List ℕ)
+        × (string_bytes text.new ≡ string_bytes text.old ++ (codes "[" ++ more))) }
 {
     push_char(text, '[')?;
     let mut space = "";
-    for element in list {
+    let mut at = from;
+    while let Some(element) = next_element(parts, at) {
+        let Some(literal) = element.string else {
+            return Ok(false);
+        };
         push_str(text, space)?;
-        let _ = push_string(alloc, text, &element.nodes)?;
+        if !push_string(alloc, text, literal)? {
+            return Ok(false);
+        }
         space = " ";
+        at = element.to;
     }
-    push_char(text, ']')
+    push_char(text, ']')?;
+    Ok(true)
+}
+
+// The value of a literal that is its word between two double quotes.
+fn bare_word(literal: &str) -> Option<&str>
+    ensures value { IfSome result (λ word. value_of literal.now ≡ Some word.now) }
+    ensures plain { IfSome result (λ word. spec.is_plain word.now ≡ true) }
+{
+    let [b'"', word @ .., b'"'] = literal.as_bytes() else {
+        return None;
+    };
+    if word.len() == 0 || has_special(word, b'\\') {
+        return None;
+    }
+    literal.get(1..literal.len() - 1)
 }
 
 // Writes a value as a word.
@@ -297,38 +345,38 @@ fn push_word(alloc: Global, text: &mut String, word: &str) -> Result<(), NoMemor
 fn is_plain(word: &[u8]) -> bool
     ensures { result ≡ spec.is_plain word.now }
 {
-    word.len() > 0 && !has_special(word)
+    word.len() > 0 && !has_special(word, b'"')
 }
 
 // So many bytes are a block.
 const BLOCK: usize = 8;
 
-// A quote, a space or a byte below it. The last block may lie over the one before: so no byte is looked at alone, but
-// in a short word.
-fn has_special(word: &[u8]) -> bool
-    ensures { result ≡ list_any (λ b. b == 34 || nat_le b 32) word.now }
+// A quote, this byte, a space or a byte below that. The last block may lie over the one before: so no byte is looked at
+// alone, but in a short word.
+fn has_special(word: &[u8], other: u8) -> bool
+    ensures { result ≡ list_any (is_special other) word.now }
 {
     if word.len() < BLOCK {
-        return is_special_in(word);
+        return is_special_in(word, other);
     }
     let mut rest = word;
     while rest.len() > BLOCK {
-        if is_special_in(&rest[..BLOCK]) {
+        if is_special_in(&rest[..BLOCK], other) {
             return true;
         }
         rest = &rest[BLOCK..];
     }
-    is_special_in(&word[word.len() - BLOCK..])
+    is_special_in(&word[word.len() - BLOCK..], other)
 }
 
 // No byte ends the loop, so that the compiler looks at the bytes of a block at once.
 #[inline(always)]
-fn is_special_in(bytes: &[u8]) -> bool
-    ensures { result ≡ list_any (λ b. b == 34 || nat_le b 32) bytes.now }
+fn is_special_in(bytes: &[u8], other: u8) -> bool
+    ensures { result ≡ list_any (is_special other) bytes.now }
 {
     let mut special = false;
     for b in bytes {
-        special |= (*b == b'"') | (*b <= b' ');
+        special |= (*b == b'"') | (*b == other) | (*b <= b' ');
     }
     special
 }

@@ -4,7 +4,8 @@ ghost use Rattle.std.specs.Prelude.{None as Nothing, map, IfOk};
 ghost use Rattle.bz_tree.specs.Rows.{part_view};
 ghost use Rattle.bz_attribute.specs.RowEdits.{IsRowEdit};
 ghost use Rattle.bz_rule.specs.Remove as spec;
-ghost use Rattle.bz_attribute.specs.Effects as effects;
+ghost use Rattle.bz_rule.specs.Reports.{removes};
+ghost use Rattle.bz_attribute.specs.Reports.{done};
 
 use crate::commands::argument_edits::{ArgumentEdit, edit_in, edit_strings};
 use crate::commands::string_edit::{Meant, StringEdit};
@@ -23,7 +24,7 @@ pub fn remove<'a>(
     new: &mut Parts<'a>,
 ) -> Result<Edit, NoMemory>
     ensures { IfOk result (IsRowEdit (spec.remove env.entry.home.now attributes.now values.now)
-        (λ args. effects.done Nothing (spec.removes env.entry.home.now attributes.now values.now args))
+        (λ args. done Nothing (removes env.entry.home.now attributes.now values.now args))
         (map part_view parts.now) (map part_view new.new.items)) }
 {
     match values {

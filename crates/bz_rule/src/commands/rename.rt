@@ -2,7 +2,7 @@
 
 ghost use Rattle.std.specs.Prelude.{IfOk, map, true};
 ghost use Rattle.bz_tree.specs.Rows.{part_view};
-ghost use Rattle.bz_attribute.specs.Effects.{done};
+ghost use Rattle.bz_attribute.specs.Reports.{done};
 ghost use Rattle.bz_rule.specs.Rename as spec;
 ghost use Rattle.bz_attribute.specs.RowEdits.{IsRowEdit};
 

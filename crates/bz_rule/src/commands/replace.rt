@@ -4,7 +4,8 @@ ghost use Rattle.std.specs.Prelude.{◌≡◌, None as Nothing, map, IfOk};
 ghost use Rattle.bz_tree.specs.Rows.{part_view};
 ghost use Rattle.bz_attribute.specs.RowEdits.{IsRowEdit};
 ghost use Rattle.bz_rule.specs.Replace as spec;
-ghost use Rattle.bz_attribute.specs.Effects as effects;
+ghost use Rattle.bz_rule.specs.Reports.{replaces};
+ghost use Rattle.bz_attribute.specs.Reports.{done};
 
 use crate::commands::argument_edits::edit_strings;
 use crate::commands::string_edit::{Meant, StringEdit};
@@ -30,8 +31,8 @@ pub fn replace<'a>(
 ) -> Result<Edit, NoMemory>
     ensures { IfOk result (IsRowEdit
         (spec.replace env.entry.home.now attributes.now change.entry.old.now change.entry.new.now)
-        (λ args. effects.done Nothing
-        (spec.replaces env.entry.home.now attributes.now change.entry.old.now change.entry.new.now args))
+        (λ args. done Nothing
+        (replaces env.entry.home.now attributes.now change.entry.old.now change.entry.new.now args))
         (map part_view parts.now) (map part_view new.new.items)) }
 {
     let Change { old, new: value } = change;

@@ -18,7 +18,8 @@ pub fn make_way<'a>(
 ) -> Result<(), NoMemory>
     requires order { (place.from ≤ place.to) × (place.from ≤ length parts.now) }
     requires later { IsUpTo written.now place.from }
-    ensures { OnOk result (HasMadeWay (written_to written.old (map part_view out.old.items) (map part_view parts.now)
+    ensures { OnOk result (HasMadeWay
+        (written_to written.old (map part_view out.old.items) (map part_view parts.now)
         place.from) (map part_view parts.now) (map part_view out.new.items) place written.new) }
 {
     let Some(before) = *written else {

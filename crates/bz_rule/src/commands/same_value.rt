@@ -24,7 +24,8 @@ pub fn is_value(new: New<'_>, parts: &[Part<'_>], value: usize, list: Option<usi
     requires list { IfSome list (λ from. from ≤ length parts.now) }
     ensures { (nodes : List Item) (after : List RowPart)
         → drop value (map part_view parts.now) ≡ value_parts nodes after
-        → OnlyList nodes after (map part_view parts.now) list → result ≡ spec.is_value (new_view new.entry) nodes }
+        → OnlyList nodes after (map part_view parts.now) list
+        → result ≡ spec.is_value (new_view new.entry) nodes }
 {
     match (new, list) {
         (New::Strings(words), Some(from)) => are_strings(words, parts, from),
@@ -51,7 +52,8 @@ fn is_token(new: New<'_>, value: &[Part<'_>]) -> bool
 // The elements from a place on are strings with these values, one for each word.
 fn are_strings(words: &[Text], parts: &[Part<'_>], from: usize) -> bool
     requires { from ≤ length parts.now }
-    ensures { (list : ListRest) (after : List RowPart) → drop from (map part_view parts.now) ≡ rest_parts list after
+    ensures { (list : ListRest) (after : List RowPart)
+        → drop from (map part_view parts.now) ≡ rest_parts list after
         → result ≡ steps.are_strings words.now list.elements }
 {
     let mut at = from;

@@ -3,11 +3,13 @@
 ghost use Rattle.std.specs.Prelude.{◌≡◌, None, false, is_some, not, map, IfOk};
 ghost use Rattle.bz_token.specs.Common.{map_or};
 ghost use Rattle.bz_tree.specs.Rows.{part_view};
-ghost use Rattle.bz_attribute.specs.Effects.{done, has};
+ghost use Rattle.bz_attribute.specs.Effects.{has};
+ghost use Rattle.bz_attribute.specs.Reports.{done};
 ghost use Rattle.bz_attribute.specs.RowEdits.{IsRowEdit};
 ghost use Rattle.bz_attribute.specs.Lists as lists;
 ghost use Rattle.bz_attribute.specs.Rules as rules;
 ghost use Rattle.bz_rule.specs.Set as spec;
+ghost use Rattle.bz_rule.specs.Reports.{sets};
 ghost use Rattle.bz_rule.specs.private.SetViews.{new_view};
 
 use crate::commands::new_argument::{push_value, write_argument};
@@ -42,7 +44,7 @@ pub fn set<'a>(
     written: &mut Parts<'a>,
 ) -> Result<Edit, NoMemory>
     ensures { IfOk result (IsRowEdit (spec.set attr.now words.now)
-        (λ args. done None (spec.sets attr.now words.now (rules.first_named attr.now args)))
+        (λ args. done None (sets attr.now words.now (rules.first_named attr.now args)))
         (map part_view parts.now) (map part_view written.new.items)) }
 {
     let Some(value) = value_place(parts, attr) else {
@@ -71,7 +73,8 @@ pub fn set_if_absent<'a>(
     written: &mut Parts<'a>,
 ) -> Result<Edit, NoMemory>
     ensures { IfOk result (IsRowEdit (spec.set_if_absent attr.now words.now)
-        (λ args. done None (not (has attr.now args))) (map part_view parts.now) (map part_view written.new.items)) }
+        (λ args. done None (not (has attr.now args))) (map part_view parts.now)
+        (map part_view written.new.items)) }
 {
     if find_argument(parts, attr).is_some() {
         return Ok(Edit::none(Done::quiet(false)));

@@ -7,6 +7,7 @@ ghost use Rattle.bz_attribute.specs.RowEdits.{IsWithin, replaced_at};
 ghost use Rattle.bz_attribute.specs.RowPlaces.{IsRuleRow};
 ghost use Rattle.bz_attribute.specs.Rules.{Rule, kind_text};
 ghost use Rattle.bz_rule.specs.Set as spec;
+ghost use Rattle.bz_rule.specs.Reports.{sets_kind_of};
 
 use bz_attribute::{Done, Edit, Parts, kind_place, push_token};
 use bz_label::cut;
@@ -23,11 +24,12 @@ pub fn set_kind<'a>(
 ) -> Result<Edit, NoMemory>
     ensures within { IfOk result (λ e. IsWithin e.place (map part_view parts.now)) }
     ensures parts { IfOk result (λ e. e.done.changed ≡ true
-        → (s : Statement) (r : Rule) → IsRuleRow s r (map part_view parts.now) → kind_text r.kind ≡ old_kind.now
+        → (s : Statement) (r : Rule) → IsRuleRow s r (map part_view parts.now)
+        → kind_text r.kind ≡ old_kind.now
         → replaced_at e.place (map part_view new.new.items) (map part_view parts.now)
         ≡ parts_of (spec.with_kind kind.now s)) }
     ensures done { IfOk result (λ e. (s : Statement) (r : Rule) → IsRuleRow s r (map part_view parts.now)
-        → kind_text r.kind ≡ old_kind.now → e.done ≡ spec.sets_kind_of kind.now (Some s)) }
+        → kind_text r.kind ≡ old_kind.now → e.done ≡ sets_kind_of kind.now (Some s)) }
     ensures unchanged { bytes_eq old_kind.now kind.now ≡ true → IsOk result }
 {
     if old_kind == kind {

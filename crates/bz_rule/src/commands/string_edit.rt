@@ -28,7 +28,7 @@ pub struct StringEdit<'h, 'c, 'w> {
 }
 
 impl<'h, 'c, 'w> StringEdit<'h, 'c, 'w> {
-    /// What they become.
+    /// The new value of the elements that are meant. None: they go.
     pub fn new(self) -> Option<&'c str>
         ensures { option_map (λ value. quoted value.now) result ≡ spec.literal_of self.entry }
     {

@@ -9,7 +9,8 @@ use Rattle.bz_token.specs.declared.fault.LexFault.{LexFault}
 use Rattle.bz_token.specs.declared.scan_token.Scanned.{Scanned}
 use Rattle.bz_token.specs.declared.scan_token.Bad.{Bad}
 use Rattle.bz_token.specs.declared.scan_token.Bad.TheVariants.{Character, Number, OpenText, Backslash}
-use Rattle.bz_token.specs.Lexical.{is_newline, IsToken}
+use Rattle.bz_token.specs.Lexical.{IsToken}
+use Rattle.bz_token.specs.Common.{is_newline}
 use Rattle.bz_token.specs.Brackets.{is_opening_bracket, is_closing_bracket, closes_innermost, open_tokens}
 use Rattle.bz_token.specs.Places.{Placed}
 use Rattle.bz_token.specs.private.BadPlaces.{IsBadCharacter, IsBadNumber, IsOpenText, IsBadBackslash}

@@ -14,7 +14,7 @@ use Rattle.bz_tree.specs.declared.grammar.stage.Goal.TheVariants.{Alone, Key, El
 use Rattle.bz_tree.specs.declared.grammar.stage.Stage.{Stage}
 use Rattle.bz_tree.specs.declared.grammar.stage.Stage.TheVariants.{Refused, Wants, Has, HasNumber, Names, Excludes, Begins, Argument, Keyword}
 use Rattle.bz_tree.specs.Tree.{Item, leaf, group, Items, no_items, item, Segs, no_segs, seg, is_call}
-use Rattle.bz_tree.specs.Statement.{is_load_word}
+use Rattle.bz_tree.specs.Kinds.{is_load_word}
 use Rattle.bz_tree.specs.private.Productions.{token_role, leaf_role, word_role, is_prefix, is_operator, is_star, join, is_dot_role, begins_dot, IsBinOp, operator, not_in, IsTest, plain, conditional, IsChain, single, binary, IsTerm, primary, unary, IsPrimary, number, operand, AreSuffixes, no_suffix, member, suffix, IsSuffix, call, index, IsOperand, ident, text, paren, list, dict, list_comp, dict_comp, AreTests, no_test, one_test, AreArgs, no_arg, one_arg, IsArg, positional, keyword, starred, AreEntries, no_entry, one_entry, IsEntry, entry, IsElement, element, IsEntryElement, entry_element, IsFor, for, AreTargets, last_target, target, AreClauses, no_clause, for_clause, if_clause, IsIndex, at, slice, IsRange, upper, stepped, IsOptional, nothing, some}
 use Rattle.bz_tree.specs.private.Machine.{ends, is_target, in_chain, after_goal, next_wanted, next_after, next, accepts, role_of, each}
 

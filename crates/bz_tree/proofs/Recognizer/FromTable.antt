@@ -4,18 +4,19 @@ use Rattle.std.specs.Prelude.{codes, Option}
 use Rattle.std.specs.List.{AllByRecursion}
 use Rattle.bz_token.specs.declared.token.Kind.{Kind}
 use Rattle.bz_token.specs.declared.token.Kind.TheVariants.{Identifier, Keyword, Integer, String, Operator as OperatorToken}
-use Rattle.bz_token.specs.Lexical.{is_one_of}
+use Rattle.bz_token.specs.Common.{is_one_of}
 use Rattle.bz_tree.specs.declared.tree.GroupKind.{GroupKind}
 use Rattle.bz_tree.specs.declared.tree.GroupKind.TheVariants.{Call, RuleCall, Load}
 use Rattle.bz_tree.specs.declared.grammar.role.Role.{Role}
 use Rattle.bz_tree.specs.declared.grammar.role.Role.TheVariants.{Name, Number, Value}
 use Rattle.bz_tree.specs.Tree.{Item, leaf, group, Items, no_items, item, Segs, no_segs, seg}
-use Rattle.bz_tree.specs.Statement.{augmented, is_load_word}
+use Rattle.bz_token.specs.Lexical.{augmented}
+use Rattle.bz_tree.specs.Kinds.{is_load_word}
 use Rattle.bz_tree.specs.Grammar as Table
-use Rattle.bz_tree.specs.Grammar.{Nonterminal, Form, any, one_of, word, sign, prefix, star, assignment, binary, binary_signs, binary_words, bracket, segment, the, ◌then◌, ◌or◌, many, maybe, each_segment, production, Part, node, between_commas, nodes, contents, Has, none, of_kind, of_texts, in_bracket, in_segment, by_production, in_turn, former, latter, no_more, again, AreOf}
+use Rattle.bz_tree.specs.Grammar.{Nonterminal, Form, any, one_of, word, sign, binary, binary_signs, bracket, segment, the, ◌then◌, ◌or◌, many, maybe, each_segment, production, Part, node, between_commas, nodes, contents, Has, none, of_kind, of_texts, in_bracket, in_segment, by_production, in_turn, former, latter, no_more, again, AreOf}
 use Rattle.bz_tree.specs.private.Productions.{token_role, leaf_role, is_prefix, is_operator, is_star, is_assignment, join, begins_dot, IsBinOp, operator, not_in, IsTest, plain, conditional, IsChain, single, binary as binary_chain, IsTerm, primary, unary, IsPrimary, number, operand, AreSuffixes, no_suffix, member, suffix, IsSuffix, call, index, IsOperand, ident, text as text_operand, paren, list, dict, list_comp, dict_comp, AreTests, no_test, one_test, AreArgs, no_arg, one_arg, IsArg, positional, keyword, starred, AreEntries, no_entry, one_entry, IsEntry, entry, element, IsEntryElement, entry_element, IsFor, for, AreTargets, last_target, target, AreClauses, no_clause, for_clause, if_clause, IsIndex, at, slice, IsRange, upper, stepped, IsOptional, nothing, some, IsExpr, last_test, test, IsString, string, IsLoadArg, loaded, renamed, AreLoadArgs, no_load_arg, load_arg, IsLoad, load, IsStatement, comments, load_statement, expression, assignment as assigned}
 use Rattle.bz_tree.proofs.Recognizer.Accepted.{join_empty, join_assoc}
-use Rattle.bz_tree.proofs.Recognizer.Tokens.{one_by_one}
+use Rattle.bz_tree.proofs.Recognizer.Tokens.{one_by_one, prefix, star, assignment, binary_words}
 
 -- one item that is such
 record Single (P : Item → Type 0) (xs : Items) : Type 0 where

@@ -9,12 +9,12 @@ use Rattle.bz_tree.specs.declared.tree.GroupKind.TheVariants.{Call, RuleCall, Lo
 use Rattle.bz_tree.specs.declared.grammar.role.Role.{Role}
 use Rattle.bz_tree.specs.declared.grammar.role.Role.TheVariants.{Name, Number, Value, Dot, Comma, Colon, Equals, Augmented, If, Else, For, In, Not, Tilde, Sum, Star, Stars, Operator}
 use Rattle.bz_tree.specs.Tree.{Item, leaf, group, Items, no_items, item, Segs, is_call}
-use Rattle.bz_tree.specs.Statement.{is_load_word}
+use Rattle.bz_tree.specs.Kinds.{is_load_word}
 use Rattle.bz_tree.specs.Grammar as Table
-use Rattle.bz_tree.specs.Grammar.{Form, any, one_of, word, sign, prefix, star, assignment, binary, bracket, segment, the, ◌then◌, ◌or◌, many, maybe, each_segment, production, Nonterminal, Part, node, between_commas, nodes, contents, Has, none, of_kind, of_texts, in_bracket, in_segment, by_production, in_turn, former, latter, no_more, again, AreOf}
+use Rattle.bz_tree.specs.Grammar.{Form, any, one_of, word, sign, binary, bracket, segment, the, ◌then◌, ◌or◌, many, maybe, each_segment, production, Nonterminal, Part, node, between_commas, nodes, contents, Has, none, of_kind, of_texts, in_bracket, in_segment, by_production, in_turn, former, latter, no_more, again, AreOf}
 use Rattle.bz_tree.specs.private.Productions.{token_role, is_prefix, is_operator, is_star, is_assignment, join, is_dot_role, begins_dot, IsBinOp, operator, not_in, IsTest, plain, conditional, IsChain, single, binary as binary_chain, IsTerm, primary, unary, IsPrimary, number, operand, AreSuffixes, no_suffix, member, suffix, IsSuffix, call, index, IsOperand, ident, text, paren, list, dict, list_comp, dict_comp, AreTests, no_test, one_test, AreArgs, no_arg, one_arg, IsArg, positional, keyword, starred, AreEntries, no_entry, one_entry, IsEntry, entry, IsElement, element, IsEntryElement, entry_element, IsFor, for, AreTargets, last_target, target, AreClauses, no_clause, for_clause, if_clause, IsIndex, at, slice, IsRange, upper, stepped, IsOptional, nothing, some, IsExpr, last_test, test, IsString, string, IsLoadArg, loaded, renamed, AreLoadArgs, no_load_arg, load_arg, IsLoad, load, IsStatement, comments, load_statement, expression, assignment as assigned}
 use Rattle.bz_tree.proofs.Recognizer.Accepted.{join_empty, join_assoc}
-use Rattle.bz_tree.proofs.Recognizer.Tokens.{has_role}
+use Rattle.bz_tree.proofs.Recognizer.Tokens.{has_role, prefix, star, assignment}
 
 abbrev Fits : Form → Items → Type 0
 Fits f xs = Has f (nodes xs)

@@ -8,7 +8,7 @@ use Rattle.bz_tree.specs.declared.grammar.stage.Goal.{Goal}
 use Rattle.bz_tree.specs.declared.grammar.stage.Goal.TheVariants.{Left, Right}
 use Rattle.bz_tree.specs.declared.grammar.stage.Stage.TheVariants.{Statement, Wants, Loads, Text, LoadArgument, Renames}
 use Rattle.bz_tree.specs.Tree.{Item, leaf, group, Items, no_items, item, Segs, seg}
-use Rattle.bz_tree.specs.Statement.{is_load_word}
+use Rattle.bz_tree.specs.Kinds.{is_load_word}
 use Rattle.bz_tree.specs.private.Productions.{token_role, leaf_role, is_assignment, join, IsExpr, last_test, test, IsString, string, IsLoadArg, loaded, renamed, AreLoadArgs, no_load_arg, load_arg, IsLoad, load, IsStatement, comments, load_statement, expression, assignment}
 use Rattle.bz_tree.specs.private.Machine.{accepts, role_of, each, after_goal, next_wanted, next, is_statement}
 use Rattle.bz_tree.proofs.Recognizer.Accepted.{join_assoc, role_known, step, refused, leave, whole, Accepts, is_test_part, test_run}

@@ -6,13 +6,14 @@ use Rattle.std.specs.List.{AllByRecursion, list_any}
 use Rattle.std.proofs.lemmas.Bool.{false≢true, or_cases, or_left, or_right}
 use Rattle.std.proofs.lemmas.Slice.Eq.{bytes_eq-Decides}
 use Rattle.bz_token.specs.declared.token.Kind.TheVariants.{Identifier, Keyword, Integer, String, Operator as OperatorToken}
-use Rattle.bz_token.specs.Lexical.{is_one_of}
+use Rattle.bz_token.specs.Common.{is_one_of}
 use Rattle.bz_tree.specs.declared.grammar.role.Role.{Role}
 use Rattle.bz_tree.specs.declared.grammar.role.Role.TheVariants.{Name, Number, Value, Dot, Comma, Colon, Equals, Augmented, If, Else, For, In, Not, Tilde, Sum, Star, Stars, Operator, Stray}
 use Rattle.bz_tree.specs.Tree.{Item, leaf, group}
-use Rattle.bz_tree.specs.Statement.{augmented}
+use Rattle.bz_token.specs.Lexical.{augmented}
 use Rattle.bz_tree.specs.private.KindSteps.{is_augmented}
-use Rattle.bz_tree.specs.Grammar.{any, word, sign, prefix, star, assignment, binary, binary_signs, binary_words, Part, node, Has, of_kind, of_texts, former, latter}
+use Rattle.bz_tree.specs.Statement.{assignments}
+use Rattle.bz_tree.specs.Grammar.{Form, any, one_of, word, sign, prefix_signs, stars, binary, binary_signs, ◌or◌, Part, node, Has, of_kind, of_texts, former, latter}
 use Rattle.bz_tree.specs.private.Productions.{word_role, operator_role, is_infix, token_role}
 
 -- what each of some texts has, one of them has
@@ -23,6 +24,19 @@ one_by_one P (t ∷ ts) all text h = elim (or_cases (bytes_eq text t) (list_any 
 by_cond : {A : Type 0} (P : A → Type 0) (b : Bool) (x y : A) → (b ≡ true → P x) → P y → P (cond b x y)
 by_cond P true x y f g = f refl
 by_cond P false x y f g = g
+
+-- parts of productions
+abbrev pub prefix : Form
+prefix = one_of OperatorToken prefix_signs or word (codes "not")
+
+abbrev pub star : Form
+star = one_of OperatorToken stars
+
+abbrev pub assignment : Form
+assignment = one_of OperatorToken assignments
+
+abbrev pub binary_words : List (List ℕ)
+binary_words = codes "or" ∷ codes "and" ∷ codes "in" ∷ []
 
 -- a token of this role, in the words of the table
 abbrev HasRole : Role → Part → Type 0
@@ -45,12 +59,6 @@ HasRole For p = Has (word (codes "for")) (p ∷ [])
 HasRole In p = Has (word (codes "in")) (p ∷ []) × Has binary (p ∷ [])
 HasRole Not p = Has (word (codes "not")) (p ∷ [])
 HasRole _ p = Unit {0}
-
-abbrev prefix_signs : List (List ℕ)
-prefix_signs = codes "+" ∷ codes "-" ∷ codes "~" ∷ []
-
-abbrev stars : List (List ℕ)
-stars = codes "*" ∷ codes "**" ∷ []
 
 abbrev sums : List (List ℕ)
 sums = codes "+" ∷ codes "-" ∷ []

@@ -19,7 +19,8 @@ use Rattle.bz_tree.specs.declared.tree.classes.Naming.TheVariants.{Name, Join, E
 use Rattle.bz_tree.specs.declared.row.spot.Read.{Read}
 use Rattle.bz_tree.specs.Tree.{Item, leaf, group, Segs, items_of, is_call, is_rule, is_rule_after}
 use Rattle.bz_tree.specs.private.Productions.{leaf_role, operator_role, is_infix, is_assignment}
-use Rattle.bz_tree.specs.Statement.{as_rule_call, is_assign, is_load_word, is_kept, class_of}
+use Rattle.bz_tree.specs.Statement.{as_rule_call, is_assign, is_kept, class_of}
+use Rattle.bz_tree.specs.Kinds.{is_load_word}
 use Rattle.bz_tree.specs.Elements.{rule_call}
 use Rattle.bz_tree.specs.private.KindSteps.{is_assign_operator, is_augmented}
 use Rattle.bz_tree.specs.private.Machine.{may_end, in_chain, after_goal, leaves, next_wanted, next_after, next, begin, group_role, is_whole, kind_role, accepts, role_of, each}
@@ -28,8 +29,7 @@ use Rattle.bz_tree.proofs.Recognizer.Accepted.{refused}
 use Rattle.bz_tree.proofs.Recognizer.Meant.{is_apart, leaf_plain}
 use Rattle.bz_tree.proofs.Recognizer.Recognized.{load_word}
 use Rattle.bz_tree.proofs.Rows.RowParts.{read_item, read_items, shown_item, shown, item_stage, accepts_read}
-use Rattle.bz_token.specs.Common.{is_empty}
-use Rattle.bz_token.specs.Lexical.{is_one_of}
+use Rattle.bz_token.specs.Common.{is_empty, is_one_of}
 use Rattle.std.specs.List.{list_any}
 use Rattle.std.proofs.Math.Bool.{or-false, or_assoc}
 use Rattle.bz_tree.proofs.Trees.OneBracket.{same_either}

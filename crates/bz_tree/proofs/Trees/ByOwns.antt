@@ -11,7 +11,7 @@ use Rattle.bz_tree.specs.Tree.{Item, Segment}
 use Rattle.bz_tree.specs.Kinds.{mark_of, is_one, group_kind}
 use Rattle.bz_tree.specs.private.KindSteps.{same_shape}
 use Rattle.bz_tree.specs.Owners.{Inner, node, comma, comment, Inside}
-use Rattle.bz_tree.specs.Brackets.{own_items, preceding, group_with}
+use Rattle.bz_tree.specs.Brackets.{with_comma_nodes, preceding, group_with}
 use Rattle.bz_tree.specs.Elements.{has_for}
 use Rattle.bz_tree.specs.Elements.{own_of}
 use Rattle.bz_tree.specs.Elements.{segment_with}
@@ -28,7 +28,7 @@ walk w (x ∷ xs) = option_and_then (λ v. walk v xs) (after x w)
 
 -- the inside of a bracket, unless a segment is empty
 abbrev pub content : Bool → List Inner → Option Inside
-content one owns = walk at_start (own_items one owns)
+content one owns = walk at_start (with_comma_nodes one owns)
 
 -- The stack of open brackets.
 pub record Level : Type 0 where

@@ -11,7 +11,7 @@ use Rattle.bz_tree.specs.Kinds.{mark_of, group_kind, is_one}
 use Rattle.bz_tree.specs.private.KindSteps.{same_shape}
 use Rattle.bz_tree.specs.Owners.{Inner, node}
 use Rattle.bz_tree.specs.Cells.{inside}
-use Rattle.bz_tree.specs.Brackets.{group_with, own_items, preceding, is_line, without_lines}
+use Rattle.bz_tree.specs.Brackets.{group_with, with_comma_nodes, preceding, is_line, without_lines}
 use Rattle.bz_tree.specs.Elements.{has_for}
 use Rattle.bz_tree.specs.Elements.{group_of}
 use Rattle.bz_tree.specs.Elements.{Elem, single, bracket, Elems, no_elems, elem, elem_tokens, elems_tokens, own_of, elem_own, elems_own, is_single, IsWell, AreWell}
@@ -51,7 +51,7 @@ mutual
   elem_run (bracket s opening inner closing) b well shape owns outer ts =
       let below = in_level shape owns b in
       let kind = group_kind s b (has_for (elems_own Other inner)) in
-      let os = own_items (is_one kind) (elems_own Other inner) in
+      let os = with_comma_nodes (is_one kind) (elems_own Other inner) in
       let inside_is : walk at_start os ≡ Some (inside os) = inside_found os ∙ ap (λ b. cond b (Some (inside os)) None) well.3 in
       let found : closed s b (elems_own Other inner) ≡ Some (group_of kind (elems_own Other inner)) = ap (option_map (group_with kind)) inside_is in
       let first : run below outer (opening ∷ ((elems_tokens inner ++ closing ∷ []) ++ ts)) ≡ run (new_level (Some s)) (below ∷ outer) ((elems_tokens inner ++ closing ∷ []) ++ ts) = rw well.0 refl in
@@ -90,7 +90,7 @@ without (t ∷ ts) = λ top outer. mark_same (mark_of t) t refl ts (without_line
 -- at depth 0 no segment is empty
 pub top_found : (os : List Inner) → option_map segment_with (content true os) ≡ Some (segment_of os)
 top_found os =
-    let is : walk at_start (own_items true os) ≡ Some (inside (own_items true os)) = inside_found (own_items true os) ∙ ap (λ b. cond b (Some (inside (own_items true os))) None) (nodes_alone false os) in
+    let is : walk at_start (with_comma_nodes true os) ≡ Some (inside (with_comma_nodes true os)) = inside_found (with_comma_nodes true os) ∙ ap (λ b. cond b (Some (inside (with_comma_nodes true os))) None) (nodes_alone false os) in
     ap (option_map segment_with) is
 
 pub statement_found : (ts : List Placed) (s : Statement) → IsStatementOf ts s → option_map (statement_with ts) (run (new_level None) [] ts) ≡ Some s

@@ -15,7 +15,7 @@ use Rattle.bz_tree.specs.Kinds.{mark_of, group_kind, is_one}
 use Rattle.bz_tree.specs.private.KindSteps.{own_item, same_shape}
 use Rattle.bz_tree.specs.Owners.{Inner, node, comma, comment}
 use Rattle.bz_tree.specs.Cells.{Last, end_of_comma, is_on}
-use Rattle.bz_tree.specs.Brackets.{own_items, preceding, is_for_item, group_with}
+use Rattle.bz_tree.specs.Brackets.{with_comma_nodes, preceding, is_for_item, group_with}
 use Rattle.bz_tree.specs.Elements.{has_for}
 use Rattle.bz_tree.specs.Elements.{own_of}
 use Rattle.bz_tree.specs.Elements.{segment_with}
@@ -51,18 +51,18 @@ steps_push (p ∷ os) w o = at_next (λ v. steps_push os v o) (after p w)
     at_next more None = refl
     at_next more (Some v) = more v
 
-items_push : (one : Bool) (os : List Inner) (o : Inner) → own_items one (os ++ o ∷ []) ≡ own_items one os ++ own_item one o ∷ []
+items_push : (one : Bool) (os : List Inner) (o : Inner) → with_comma_nodes one (os ++ o ∷ []) ≡ with_comma_nodes one os ++ own_item one o ∷ []
 items_push one [] o = refl
 items_push one (p ∷ os) o = ap (λ ps. own_item one p ∷ ps) (items_push one os o)
 
 abbrev walked_by : Bool → List Inner → Option Walked
-walked_by one owns = steps at_start (own_items one owns)
+walked_by one owns = steps at_start (with_comma_nodes one owns)
 
 after_item : (one : Bool) (o : Inner) (p : Option Walked) → option_and_then (after (own_item one o)) p ≡ after_own one o p
 after_item va vb vc = grind arith
 
 walked_push : (one : Bool) (os : List Inner) (o : Inner) → walked_by one (os ++ o ∷ []) ≡ after_own one o (walked_by one os)
-walked_push one os o = ap (steps at_start) (items_push one os o) ∙ (steps_push (own_items one os) at_start (own_item one o) ∙ after_item one o (walked_by one os))
+walked_push one os o = ap (steps at_start) (items_push one os o) ∙ (steps_push (with_comma_nodes one os) at_start (own_item one o) ∙ after_item one o (walked_by one os))
 
 abbrev has_comma : List Inner → Bool
 has_comma [] = false
@@ -70,7 +70,7 @@ has_comma (node line x ∷ os) = has_comma os
 has_comma (comma t ∷ os) = true
 has_comma (comment line text ∷ os) = has_comma os
 
-same_items : (os : List Inner) → has_comma os ≡ false → own_items true os ≡ own_items false os
+same_items : (os : List Inner) → has_comma os ≡ false → with_comma_nodes true os ≡ with_comma_nodes false os
 same_items [] none = refl
 same_items (node line x ∷ os) none = ap (λ ps. node line x ∷ ps) (same_items os none)
 same_items (comma t ∷ os) none = absurd (false≢true (sym none))
@@ -99,7 +99,7 @@ filled_commented : (last : Last) (on : Bool) (text : List ℕ) (w : Walked) → 
 filled_commented va vb vc vd = grind arith
 
 -- whether a comma was met
-not_first : (os : List Inner) (w : Walked) → is_in_first (steps w (own_items false os)) ≡ not (is_filled w.segs || has_comma os)
+not_first : (os : List Inner) (w : Walked) → is_in_first (steps w (with_comma_nodes false os)) ≡ not (is_filled w.segs || has_comma os)
 not_first [] w = ap not (sym (or-false (is_filled w.segs)))
 not_first (node line x ∷ os) w = not_first os (after_node line x w)
 not_first (comment line text ∷ os) w = not_first os (after_comment line text w) ∙ ap (λ b. not (b || has_comma os)) (filled_commented w.last (is_on w.last line) text w)
@@ -110,16 +110,16 @@ not_first (comma t ∷ os) w = at_nodes (λ v. not_first os v) w.nodes refl
     or_some false = refl
 
     More : Type 0
-    More = (v : Walked) → is_in_first (steps v (own_items false os)) ≡ not (is_filled v.segs || has_comma os)
+    More = (v : Walked) → is_in_first (steps v (with_comma_nodes false os)) ≡ not (is_filled v.segs || has_comma os)
 
     with_nodes : List Item → Walked
     with_nodes nodes = record { segs = w.segs; before = w.before; nodes = nodes; suffix = w.suffix; after = w.after; last = w.last; trailing = w.trailing }
 
-    at_nodes : More → (nodes : List Item) → w ≡ with_nodes nodes → is_in_first (option_and_then (λ v. steps v (own_items false os)) (after_comma t.line w)) ≡ not (is_filled w.segs || true)
-    at_nodes more [] is = ap (λ u. is_in_first (option_and_then (λ v. steps v (own_items false os)) (after_comma t.line u))) is ∙ or_some (is_filled w.segs)
+    at_nodes : More → (nodes : List Item) → w ≡ with_nodes nodes → is_in_first (option_and_then (λ v. steps v (with_comma_nodes false os)) (after_comma t.line w)) ≡ not (is_filled w.segs || true)
+    at_nodes more [] is = ap (λ u. is_in_first (option_and_then (λ v. steps v (with_comma_nodes false os)) (after_comma t.line u))) is ∙ or_some (is_filled w.segs)
     at_nodes more (x ∷ xs) is =
         let s : Segment = record { before = w.before ++ w.after; nodes = x ∷ xs; suffix = w.suffix } in
-        ap (λ u. is_in_first (option_and_then (λ v. steps v (own_items false os)) (after_comma t.line u))) is
+        ap (λ u. is_in_first (option_and_then (λ v. steps v (with_comma_nodes false os)) (after_comma t.line u))) is
         ∙ (more (record { segs = w.segs ++ s ∷ []; before = []; nodes = []; suffix = None; after = []; last = end_of_comma t.line; trailing = true })
         ∙ (ap (λ b. not (b || has_comma os)) (filled_push w.segs s) ∙ or_some (is_filled w.segs)))
 
@@ -216,7 +216,7 @@ shapes_stay : (o : Option Shape) (b : Preceding) (h : Bool) → option_map shape
 shapes_stay va vb vc = grind arith
 
 closed_same : (k : GroupKind) (owns : List Inner) → closed (Some k) (walked_by (is_one k) owns) ≡ option_map (group_with k) (content (is_one k) owns)
-closed_same k owns = ap (option_map (group_with k)) (sym (walk_is_steps (own_items (is_one k) owns) at_start))
+closed_same k owns = ap (option_map (group_with k)) (sym (walk_is_steps (with_comma_nodes (is_one k) owns) at_start))
 
 -- a step, here and there
 close_same : (s : Shape) (t : Placed) (o : Option Shape) (owns : List Inner) (at : Preceding) (below : by_owns.Level) (outer : List by_owns.Level)
@@ -247,7 +247,7 @@ next_same (Close s) t top (below ∷ outer) = close_same s t top.shape top.owns 
 next_same m t top outer = ap (λ (l : Level). Some (l, images outer)) (own_same top.shape (before_of outer) top.owns top.at (own_of m t))
 
 finish_same : (o : Option Shape) (b : Preceding) (owns : List Inner) (outer : List by_owns.Level) → finish (kind_by o b (has_for owns)) (walked_by (has_one (kind_by o b (has_for owns))) owns) (images outer) ≡ by_owns.finish o owns outer
-finish_same None b owns [] = ap (option_map segment_with) (sym (walk_is_steps (own_items true owns) at_start))
+finish_same None b owns [] = ap (option_map segment_with) (sym (walk_is_steps (with_comma_nodes true owns) at_start))
 finish_same None b owns (l ∷ outer) = refl
 finish_same (Some s) b owns outer = refl
 

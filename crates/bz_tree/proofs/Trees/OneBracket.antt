@@ -6,7 +6,7 @@ use Rattle.bz_token.specs.Places.{Placed}
 use Rattle.bz_tree.specs.Tree.{Item, Segment}
 use Rattle.bz_tree.specs.Owners.{Inner, node, comma, comment, Inside}
 use Rattle.bz_tree.specs.Cells.{Last, no_token, end_of_node, end_of_comma, no_empty_cell, inside, Entry, a_node, a_comma, a_comment, first_cell, other_cells, same_line, later_lines, nodes_in, has_node, comments_in, above_last, beside_last, below_last, segments_from, end_from, has_trailing_comma, entries_of}
-use Rattle.bz_tree.specs.Brackets.{own_items}
+use Rattle.bz_tree.specs.Brackets.{with_comma_nodes}
 use Rattle.bz_tree.specs.Comments.{beside as texts_of}
 use Rattle.bz_tree.specs.Statement.{as_rule_call}
 use Rattle.bz_tree.specs.Elements.{rule_call}
@@ -332,7 +332,7 @@ inside_found os =
     walk_on os [] false [] ∙ λ i. cond (no_empty_cell false os) (Some (record { segs = segments_from cell cells; trailing = trailed_is cell cells i; end = end_from cell cells })) None
 
 -- where no comma stands, no segment is empty
-pub nodes_alone : (b : Bool) (os : List Inner) → no_empty_cell b (own_items true os) ≡ true
+pub nodes_alone : (b : Bool) (os : List Inner) → no_empty_cell b (with_comma_nodes true os) ≡ true
 nodes_alone b [] = refl
 nodes_alone b (node line x ∷ os) = nodes_alone true os
 nodes_alone b (comma t ∷ os) = nodes_alone true os

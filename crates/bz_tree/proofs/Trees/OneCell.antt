@@ -9,13 +9,13 @@ use Rattle.bz_token.specs.Groups.{grouped_from}
 use Rattle.bz_token.specs.declared.token.Kind.TheVariants.{Identifier, Operator}
 use Rattle.bz_tree.specs.Tree.{Item, leaf, group, Segment, is_rule, is_rule_after}
 use Rattle.bz_tree.specs.Owners.{Inner, node, comma, comment, nodes_of, texts_of, is_node, is_comma, beside, on_own_lines, cell_goes_on, cells, from_last_node, end_comments, cell_segment, inside}
-use Rattle.bz_tree.specs.Brackets.{own_items}
+use Rattle.bz_tree.specs.Brackets.{with_comma_nodes}
 use Rattle.bz_tree.specs.Statement.{as_rule_call, segment_of}
 use Rattle.bz_tree.specs.Elements.{one_segment, rule_call, with_rule_call, segment_with}
 use Rattle.bz_tree.proofs.Trees.LastOf.{before_last_none}
 use Rattle.bz_tree.proofs.Trees.SameOwners.{open_takes, free_more, from_none, off_beside, no_nodes, comments_alone}
 
-no_comma : (owns : List Inner) → list_any is_comma (own_items true owns) ≡ false
+no_comma : (owns : List Inner) → list_any is_comma (with_comma_nodes true owns) ≡ false
 no_comma [] = refl
 no_comma (node line x ∷ owns) = no_comma owns
 no_comma (comma t ∷ owns) = no_comma owns
@@ -91,5 +91,5 @@ calls_same s = λ i. record { before = s.before; nodes = nodes (is_rule s.nodes)
 abbrev calls : Segment → Segment
 calls s = record { before = s.before; nodes = cond (is_rule s.nodes) (map as_rule_call s.nodes) s.nodes; suffix = s.suffix }
 
-pub with_calls : (owns : List Inner) → segment_of owns ≡ segment_with (inside (own_items true owns))
-with_calls owns = ap calls (sym (by_cell (own_items true owns) (no_comma owns))) ∙ calls_same (one_segment (inside (own_items true owns)).segs (inside (own_items true owns)).end)
+pub with_calls : (owns : List Inner) → segment_of owns ≡ segment_with (inside (with_comma_nodes true owns))
+with_calls owns = ap calls (sym (by_cell (with_comma_nodes true owns) (no_comma owns))) ∙ calls_same (one_segment (inside (with_comma_nodes true owns)).segs (inside (with_comma_nodes true owns)).end)

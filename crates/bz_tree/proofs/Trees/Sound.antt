@@ -11,7 +11,7 @@ use Rattle.bz_tree.specs.Kinds.{mark_of, group_kind, is_one}
 use Rattle.bz_tree.specs.private.KindSteps.{same_shape}
 use Rattle.bz_tree.specs.Owners.{Inner, node}
 use Rattle.bz_tree.specs.Cells.{inside, no_empty_cell}
-use Rattle.bz_tree.specs.Brackets.{group_with, own_items, preceding, is_line, without_lines}
+use Rattle.bz_tree.specs.Brackets.{group_with, with_comma_nodes, preceding, is_line, without_lines}
 use Rattle.bz_tree.specs.Elements.{has_for}
 use Rattle.bz_tree.specs.Elements.{group_of}
 use Rattle.bz_tree.specs.Elements.{Elem, single, bracket, Elems, no_elems, elem, elem_tokens, elems_tokens, own_of, elem_own, elems_own, is_single, IsWell, AreWell}
@@ -124,7 +124,7 @@ same_shape_is va vb vc = grind arith
 
 -- a bracket that could be closed
 abbrev items_at : Shape → Preceding → List Inner → List Inner
-items_at s b owns = own_items (is_one (group_kind s b (has_for owns))) owns
+items_at s b owns = with_comma_nodes (is_one (group_kind s b (has_for owns))) owns
 
 closed_is : (s : Shape) (b : Preceding) (owns : List Inner) (g : Item) (e : Bool) → no_empty_cell false (items_at s b owns) ≡ e → closed s b owns ≡ Some g
     → (no_empty_cell false (items_at s b owns) ≡ true) × (group_of (group_kind s b (has_for owns)) owns ≡ g)

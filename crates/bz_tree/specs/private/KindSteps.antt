@@ -1,8 +1,8 @@
 -- For private clauses: tests of a token by its kind and text, of the shapes of two brackets, and what one thing in a bracket is.
-use Rattle.std.specs.Prelude.{codes, List, ◌∷◌, ℕ, Bool, true, false, if◌then◌else◌, Option, Some}
+use Rattle.std.specs.Prelude.{List, ℕ, Bool, true, false, if◌then◌else◌, Option, Some}
 use Rattle.bz_token.specs.declared.token.Kind.{Kind}
 use Rattle.bz_token.specs.declared.token.Kind.TheVariants.{Identifier}
-use Rattle.bz_token.specs.Lexical.{is_one_of}
+use Rattle.bz_token.specs.Common.{is_one_of}
 use Rattle.bz_tree.specs.declared.tree.kinds.Shape.{Shape}
 use Rattle.bz_tree.specs.declared.tree.kinds.Shape.TheVariants.{Round, Square, Curly}
 use Rattle.bz_tree.specs.declared.tree.kinds.Preceding.{Preceding}
@@ -10,7 +10,8 @@ use Rattle.bz_tree.specs.Tree.{leaf, is_operator_item}
 use Rattle.bz_tree.specs.Kinds.{after_item}
 use Rattle.bz_tree.specs.Owners.{Inner}
 use Rattle.bz_tree.specs.Brackets.{as_node, is_for_item}
-use Rattle.bz_tree.specs.Statement.{augmented}
+use Rattle.bz_token.specs.Lexical.{augmented}
+use Rattle.bz_tree.specs.Statement.{assignments}
 
 abbrev pub is_ident : Kind → Bool
 is_ident Identifier = true
@@ -29,7 +30,7 @@ abbrev pub is_augmented : List ℕ → Bool
 is_augmented text = is_one_of augmented text
 
 abbrev pub is_assign_operator : List ℕ → Bool
-is_assign_operator text = is_one_of (codes "=" ∷ augmented) text
+is_assign_operator text = is_one_of assignments text
 
 abbrev pub own_item : Bool → Inner → Inner
 own_item one own = if one then as_node own else own

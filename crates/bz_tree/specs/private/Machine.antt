@@ -9,9 +9,8 @@ use Rattle.bz_tree.specs.declared.grammar.stage.Goal.{Goal}
 use Rattle.bz_tree.specs.declared.grammar.stage.Goal.TheVariants.{Left, Right, Alone, Key, Element, EntryKey, From, To, Step, Target, Clause}
 use Rattle.bz_tree.specs.declared.grammar.stage.Stage.{Stage}
 use Rattle.bz_tree.specs.declared.grammar.stage.Stage.TheVariants.{Refused, Statement, Wants, Has, HasNumber, Names, Excludes, Begins, Argument, Keyword, Loads, Text, LoadArgument, Renames, Done}
-use Rattle.bz_tree.specs.Kinds.{is_one}
+use Rattle.bz_tree.specs.Kinds.{is_one, is_load_word}
 use Rattle.bz_tree.specs.Tree.{Item, leaf, group, Items, no_items, item, Segs, no_segs, seg}
-use Rattle.bz_tree.specs.Statement.{is_load_word}
 use Rattle.bz_tree.specs.private.Productions.{leaf_role}
 
 -- where a goal may end

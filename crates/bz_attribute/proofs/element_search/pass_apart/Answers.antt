@@ -2,7 +2,7 @@ use Rattle.std.proofs.Common.{◌+◌, Some, false, ap, map, refl, rules, sym, �
 use Rattle.bz_tree.specs.Rows.{part_view}
 use Rattle.bz_label.specs.Values.{value_of}
 use Rattle.bz_token.specs.Common.{map_or}
-use Rattle.bz_attribute.specs.Lists.{same}
+use Rattle.bz_label.specs.Same.{same}
 use Rattle.bz_attribute.specs.private.Parts.{bare_string}
 use Rattle.bz_attribute.proofs.ElementSearch.{sought_more}
 use Rattle.bz_attribute.proofs.ListElements.{bare_there}

@@ -1,7 +1,7 @@
 use Rattle.std.proofs.Common.{false, sym, ◌∙◌}
 use Rattle.bz_label.specs.Values.{value_of}
 use Rattle.bz_token.specs.Common.{map_or}
-use Rattle.bz_attribute.specs.Lists.{same}
+use Rattle.bz_label.specs.Same.{same}
 use Rattle.bz_attribute.proofs.equals.text_equals.Goals as goal
 
 pub returns-then-literal_apart : goal.returns-then-literal_apart

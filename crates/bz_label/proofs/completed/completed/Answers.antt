@@ -2,8 +2,8 @@ use Rattle.std.proofs.Common.{◌≡◌, ◌∷◌, ◌++◌, List, ℕ, true, f
 use Rattle.std.proofs.lemmas.List.{append-nil}
 use Rattle.std.specs.List.{list_any}
 use Rattle.std.specs.Prelude.{is_some}
-use Rattle.bz_label.specs.Labels.{is_colon, last_of, parts_of}
-use Rattle.bz_label.specs.Same.{completed, in_package}
+use Rattle.bz_label.specs.Labels.{is_colon, last_part, parts_of, in_package}
+use Rattle.bz_label.specs.Same.{completed}
 use Rattle.bz_label.specs.private.ByteSteps.{left}
 use Rattle.bz_label.proofs.LastParts.{has_colon, alone, at_sign, coloned, path}
 use Rattle.bz_label.proofs.completed.completed.Goals as goal
@@ -45,7 +45,7 @@ returns-clause-bytes c =
       | in_default-matches w ↦ let clash : true ≡ false = sym c.if-not-matches.false ∙ w.matches-is in cc
       | in_default-matches-2 w ↦ let clash : true ≡ false = sym c.if-not-matches.false ∙ w.matches-is in cc
     ] in
-    let last : name ≡ last_of (parts_of (47 ∷ rest)) = c.last_part-name.ensures.last ∙ ap (λ (bs : List ℕ). last_of (parts_of bs)) is in
+    let last : name ≡ last_part (parts_of (47 ∷ rest)) = c.last_part-name.ensures.last ∙ ap (λ (bs : List ℕ). last_part (parts_of bs)) is in
     let some : is_some c.next-else-not-matches.result ≡ true = c.if-is_none.ensures in
     (λ i. is i ++ 58 ∷ append-nil name i)
     ∙ sym (path home rest two.0 name c.next-else-not-matches.result none two.1 last c.next-else-not-matches.ensures.next some)

@@ -1,6 +1,6 @@
 use Rattle.std.proofs.Common.{◌≡◌, None, ap, sym, ◌∙◌}
 use Rattle.std.specs.Prelude.{option_map}
-use Rattle.bz_label.specs.Labels.{last_of}
+use Rattle.bz_label.specs.Labels.{last_part}
 use Rattle.bz_label.specs.private.ByteSteps.{left}
 use Rattle.bz_label.specs.private.LabelSteps.{rest_after}
 use Rattle.bz_label.proofs.LastParts.{shorter, one_part, more_parts}
@@ -18,4 +18,4 @@ loop-rest-preserved c = record {
 pub returns-clause-last : goal.returns-clause-last
 returns-clause-last c =
     let none : None ≡ rest_after 47 (left c.loop-rest.path) = ap (option_map left) (sym c.in_default.is) ∙ c.after.ensures.rest in
-    sym (ap last_of (one_part (left c.loop-rest.path) none)) ∙ c.loop-rest.invariant.same
+    sym (ap last_part (one_part (left c.loop-rest.path) none)) ∙ c.loop-rest.invariant.same

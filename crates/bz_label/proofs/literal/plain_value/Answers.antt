@@ -2,7 +2,7 @@ use Rattle.std.proofs.Common.{◌≡◌, ◌∙◌, ◌≤◌, ◌<◌, ◌+◌,
 use Rattle.std.proofs.lemmas.Grind.{common_steps}
 use Rattle.std.specs.List.{list_all}
 use Rattle.std.proofs.lemmas.List.{take_all, take_more}
-use Rattle.bz_label.specs.Values.{is_plain}
+use Rattle.bz_label.specs.Literals.{is_plain}
 use Rattle.bz_label.specs.private.ValueSteps.{inner_value}
 use Rattle.bz_label.proofs.Literals.{plain_all, plain_value, plain_left}
 use Rattle.bz_label.proofs.literal.plain_value.Goals as goal

@@ -3,7 +3,8 @@ use Rattle.std.specs.List.{slice_split}
 use Rattle.std.specs.Str.{is_utf8}
 use Rattle.std.proofs.lemmas.Bool.{cases_Bool}
 use Rattle.std.proofs.lemmas.Str.{IsUtf8-from_is_utf8, is_utf8-from_IsUtf8}
-use Rattle.bz_script.specs.CommandFiles.{is_newline, lines_steps}
+use Rattle.bz_script.specs.CommandFiles.{lines_steps}
+use Rattle.bz_token.specs.Common.{is_newline}
 use Rattle.bz_script.proofs.command_file.read_command_file.Goals as goal
 
 pub returns-in-Ok : goal.returns-in-Ok

@@ -6,7 +6,8 @@ use Rattle.std.proofs.lemmas.Iterator.Consumers.{YieldsList-from_enumerate, Yiel
 use Rattle.std.proofs.lemmas.Iterator.Splits.{YieldsList-from_str_split}
 use Rattle.std.proofs.lemmas.List.{length_push}
 use Rattle.std.proofs.lemmas.List.FromFn.{length-enumerate_from}
-use Rattle.bz_script.specs.CommandFiles.{is_newline, line_steps}
+use Rattle.bz_script.specs.CommandFiles.{line_steps}
+use Rattle.bz_token.specs.Common.{is_newline}
 use Rattle.bz_script.specs.Groups.{Step}
 use Rattle.bz_script.proofs.FileLines.{IsTurn, is_turn, start, steps_at, turn_ok, turn_err, end}
 use Rattle.bz_script.proofs.command_file.read_lines.Goals as goal

@@ -1,6 +1,7 @@
 use Rattle.std.proofs.Common.{◌≡◌, length}
 use Rattle.std.specs.List.{slice_split}
-use Rattle.bz_script.specs.CommandFiles.{is_newline, lines_steps}
+use Rattle.bz_script.specs.CommandFiles.{lines_steps}
+use Rattle.bz_token.specs.Common.{is_newline}
 use Rattle.bz_script.proofs.FileLines.{steps_at}
 use Rattle.bz_script.proofs.command_file.read_lines.Given as goal
 

@@ -1,6 +1,6 @@
 use Rattle.std.proofs.Common.{arith, not}
 use Rattle.std.proofs.lemmas.List.{length-take-le}
-use Rattle.bz_token.specs.Lexical.{is_newline}
+use Rattle.bz_token.specs.Common.{is_newline}
 use Rattle.std.proofs.lemmas.List.Sums.{prefix_len-le-length}
 use Rattle.bz_token.proofs.Gaps.{comment_front}
 use Rattle.bz_token.proofs.scan.line_comment_len.Goals as goal

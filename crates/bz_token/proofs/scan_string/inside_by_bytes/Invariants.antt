@@ -1,6 +1,6 @@
 use Rattle.std.proofs.Common.{◌≡◌, ◌≤◌, ◌<◌, ℕ, List, ◌++◌, false, take}
 use Rattle.std.specs.List.{list_any}
-use Rattle.bz_token.specs.Lexical.{is_newline}
+use Rattle.bz_token.specs.Common.{is_newline}
 use Rattle.bz_token.specs.private.Closing.{closes}
 use Rattle.bz_token.specs.declared.scan_string.Escape.TheVariants.{Unescaped}
 use Rattle.bz_token.proofs.scan_string.inside_by_bytes.Given as goal

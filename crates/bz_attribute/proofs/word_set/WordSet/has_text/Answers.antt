@@ -2,7 +2,7 @@ use Rattle.std.proofs.Common.{List, ℕ, Option, ap, sym, ◌∙◌, false}
 use Rattle.std.specs.List.{list_any}
 use Rattle.bz_attribute.proofs.LabelSets.{none_same}
 use Rattle.bz_attribute.proofs.word_set.WordSet.has_text.Goals as goal
-use Rattle.bz_attribute.specs.Lists.{same}
+use Rattle.bz_label.specs.Same.{same}
 use Rattle.bz_token.specs.Common.{map_or}
 
 pub returns-in-None : goal.returns-in-None

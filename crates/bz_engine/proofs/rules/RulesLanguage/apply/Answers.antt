@@ -2,7 +2,7 @@ use Rattle.std.proofs.Common.{◌∙◌, ◌++◌, [], ap}
 use Rattle.bz_token.specs.Common.{map_or}
 use Rattle.bz_attribute.specs.Texts.{shown_text}
 use Rattle.std.proofs.lemmas.Result.{IfOk-weaker, on_ok_weaker}
-use Rattle.bz_engine.specs.Language.{fails}
+use Rattle.bz_engine.specs.Failing.{fails}
 use Rattle.bz_engine.proofs.Failures.{told_fails}
 use Rattle.bz_engine.proofs.Noted.{says_found}
 use Rattle.bz_engine.proofs.rules.RulesLanguage.apply.Goals as goal

@@ -3,7 +3,7 @@ use Rattle.std.proofs.lemmas.List.{length-map}
 use Rattle.bz_tree.specs.declared.row.Part.{Part}
 use Rattle.bz_tree.specs.Rows.{RowPart, part_view, segs_parts}
 use Rattle.bz_tree.specs.Tree.{Segment, Statement, segs_of}
-use Rattle.bz_rule.specs.Add.{new_elements}
+use Rattle.bz_rule.specs.AddByValue.{new_elements}
 use Rattle.bz_attribute.specs.Effects.{argument, list_item}
 use Rattle.bz_attribute.specs.Elements.{AreLists}
 use Rattle.bz_attribute.specs.Lists.{parts}

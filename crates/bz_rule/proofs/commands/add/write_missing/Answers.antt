@@ -1,13 +1,10 @@
 use Rattle.std.proofs.Common.{◌≡◌, ℕ, List, [], ◌∷◌, ◌++◌, ◌<◌, get_or, length, map, ap, sym, ◌∙◌, arith}
-use Rattle.std.proofs.lemmas.Result.{on_ok_weaker}
 use Rattle.std.proofs.lemmas.List.{get_or_default}
 use Rattle.bz_tree.specs.Rows.{RowPart, part_view, segs_parts}
 use Rattle.bz_tree.specs.Tree.{segs_of}
 use Rattle.bz_attribute.specs.Effects.{string}
-use Rattle.bz_rule.specs.Add.{new_elements}
 use Rattle.bz_rule.proofs.Adding.{adding_begins, adding_ends, adding_more, adding_none}
-use Rattle.bz_rule.proofs.Meanings.{one_alone}
-use Rattle.bz_rule.proofs.Known.{known_first}
+use Rattle.bz_rule.proofs.Known.{known_first, knows_fresh, knows_more}
 use Rattle.bz_rule.proofs.commands.add.write_missing.Goals as goal
 use Rattle.bz_rule.proofs.commands.add.write_missing.Goals.{then-branch+in_ok-push_element, else-branch}
 
@@ -18,32 +15,28 @@ loop-word-preserved c = λ lists are.
     let i : ℕ = c.loop-word.word-index in
     let now : List RowPart = map part_view c.loop-word.written.items in
     let h : c.loop-word.word-index < length c.args.values.now = omega (arith, c.loop-word-test.true) in
-    let item : c.word-item-in-loop-word.result ≡ get_or c.args.values.now c.loop-word.word-index [] = c.word-item-in-loop-word.is ∙ get_or_default values i _ [] h in
-    let read = c.as_bytes.ensures.value ∙ c.as_str-in-loop-word.ensures ∙ item in
+    let item : c.word-item.result ≡ get_or c.args.values.now c.loop-word.word-index [] = c.word-item.is ∙ get_or_default values i _ [] h in
+    let read = c.as_bytes.ensures.value ∙ c.as_str.ensures ∙ item in
     let so_far = c.loop-word.invariant lists are in
+    let told = sym (knows_fresh home lists values i c.as_bytes.result.now c.loop-word.labels h read so_far.1) ∙ sym c.in_ok-insert.ensures.new in
+    let knows = knows_more home lists values i c.as_bytes.result.now c.loop-word.labels c.insert.new.self h read so_far.1 c.in_ok-insert.ensures.ok c.in_ok-insert.ensures.home in
     elim c.if-branch.branch [
-      | then-branch+in_ok-push_element w ↦
-          adding_more home lists values i c.as_bytes.result.now c.loop-word.labels c.insert.new.self _ now _ so_far h read c.in_ok-insert.ensures.ok c.in_ok-insert.ensures.home (sym c.in_ok-insert.ensures.new ∙ w.if-branch.true)
-          ((λ j. map part_view (w.written-is j).items) ∙ w.in_ok-push_element.ensures ∙ ap (λ (name : List ℕ). now ++ segs_parts (segs_of (string name ∷ []))) (w.as_str-then-branch.ensures ∙ item ∙ sym read))
-      | else-branch w ↦
-          adding_none home lists values i c.as_bytes.result.now c.loop-word.labels c.insert.new.self _ now _ so_far h read c.in_ok-insert.ensures.ok c.in_ok-insert.ensures.home (sym c.in_ok-insert.ensures.new ∙ w.if-branch.false)
-          (λ j. map part_view (w.written-is j).items)
+      | then-branch+in_ok-push_element w ↦ (
+        adding_more home lists values i c.as_bytes.result.now _ now _ so_far.0 h read (told ∙ w.if-branch.true)
+            ((λ j. map part_view (w.written-is j).items) ∙ w.in_ok-push_element.ensures ∙ ap (λ (name : List ℕ). now ++ segs_parts (segs_of (string name ∷ []))) (w.as_str-then-branch.ensures ∙ item ∙ sym read)),
+        knows,
+      )
+      | else-branch w ↦ (adding_none home lists values i c.as_bytes.result.now _ now _ so_far.0 h read (told ∙ w.if-branch.false) (λ j. map part_view (w.written-is j).items), knows)
     ]
 
 pub returns : goal.returns
 returns c = λ lists are.
-    adding_ends c.args.env.home.now lists c.args.values.now c.loop-word.word-index c.loop-word.labels _ (map part_view c.loop-word.written.items) (c.loop-word.invariant lists are) (omega (arith, c.loop-word-test.false))
-
-pub returns-in-len1 : goal.returns-in-len1
-returns-in-len1 c =
-    let one : c.args.values.now ≡ c.as_str.result.now ∷ [] =
-    one_alone c.args.values.now c.word-item.result _ (omega (arith, c.in-len1.len_at_least)) (omega (arith, c.in-len1.len_below)) c.word-item.is ∙ ap (λ (v : List ℕ). v ∷ []) (sym c.as_str.ensures) in
-    on_ok_weaker c.write_if_missing.result (λ written. λ lists are.
-    written lists are ∙ ap (λ (vs : List (List ℕ)). map part_view c.args.written.now.items ++ segs_parts (segs_of (new_elements c.args.env.home.now lists vs))) (sym one)) c.write_if_missing.ensures
+    adding_ends c.args.env.home.now lists c.args.values.now c.loop-word.word-index _ (map part_view c.loop-word.written.items) (c.loop-word.invariant lists are).0 (omega (arith, c.loop-word-test.false))
 
 pub loop-word-init : goal.loop-word-init
 loop-word-init c = λ lists are.
     let home = c.args.env.home.now in
-    let values = c.args.values.now in
-    adding_begins home lists values c.in_ok-labels.labels (map part_view c.args.written.now.items)
-    (known_first home lists values c.in_ok-words.words.words.now c.in_ok-labels.labels c.in_ok-words.ensures c.in_ok-labels.ensures.home (c.in_ok-labels.ensures.all lists are))
+    let values = c.args.values.now in (
+      adding_begins home lists values (map part_view c.args.written.now.items),
+      known_first home lists values c.in_ok-words.words.words.now c.in_ok-labels.labels c.in_ok-words.ensures c.in_ok-labels.ensures.home (c.in_ok-labels.ensures.all lists are),
+    )

@@ -4,7 +4,7 @@ use Rattle.bz_label.specs.LabelSetViews.{has}
 use Rattle.bz_label.specs.private.ByteSteps.{left}
 use Rattle.bz_label.specs.Values.{value_of}
 use Rattle.bz_attribute.proofs.LabelSets.{same_back}
-use Rattle.bz_attribute.specs.Lists.{same}
+use Rattle.bz_label.specs.Same.{same}
 use Rattle.bz_token.specs.Common.{map_or}
 use Rattle.bz_rule.specs.private.StringEdits.{means}
 use Rattle.bz_rule.proofs.commands.arrivals.arrives.Goals as goal

@@ -2,8 +2,8 @@ use Rattle.std.proofs.Common.{None, ap, map, refl, subst, sym, ◌∙◌, if◌t
 use Rattle.bz_tree.specs.Rows.{part_view}
 use Rattle.bz_label.specs.declared.arguments.Chosen.{Chosen}
 use Rattle.bz_label.specs.declared.arguments.Chosen.TheVariants.{All, Values}
-use Rattle.bz_attribute.specs.Effects.{done}
-use Rattle.bz_rule.specs.Move.{moves}
+use Rattle.bz_attribute.specs.Reports.{done}
+use Rattle.bz_rule.specs.Reports.{moves}
 use Rattle.bz_rule.specs.private.Steps.{moved}
 use Rattle.bz_attribute.specs.RowEdits.{IsRowEdit}
 use Rattle.bz_rule.proofs.Meanings.{meant_chosen}

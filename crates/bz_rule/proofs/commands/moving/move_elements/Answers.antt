@@ -1,6 +1,6 @@
 use Rattle.std.proofs.Common.{List, None, Some, ap, map, subst, ◌∙◌}
 use Rattle.bz_tree.specs.Rows.{RowPart, part_view}
-use Rattle.bz_rule.specs.Move.{moves}
+use Rattle.bz_rule.specs.Reports.{moves}
 use Rattle.bz_attribute.specs.declared.done.Done.{Done}
 use Rattle.bz_attribute.proofs.RowEdits.{unchanged}
 use Rattle.bz_rule.specs.declared.commands.list_place.ListPlace.{ListPlace}

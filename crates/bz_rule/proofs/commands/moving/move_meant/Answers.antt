@@ -2,7 +2,8 @@ use Rattle.std.proofs.Common.{ℕ, List, Option, None, true, ◌∙◌, ap, map,
 use Rattle.std.proofs.lemmas.Bool.{not-true, not-false}
 use Rattle.std.proofs.lemmas.List.{length-map}
 use Rattle.bz_tree.specs.Rows.{RowPart, part_view}
-use Rattle.bz_attribute.specs.Effects.{done, edit_first, filtered}
+use Rattle.bz_attribute.specs.Effects.{edit_first, filtered}
+use Rattle.bz_attribute.specs.Reports.{done}
 use Rattle.bz_attribute.specs.RowEdits.{IsRowEdit, replaced_at}
 use Rattle.bz_attribute.specs.Rules.{is_named}
 use Rattle.bz_attribute.specs.declared.place.Place.{Place}

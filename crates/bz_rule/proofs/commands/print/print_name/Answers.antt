@@ -9,7 +9,8 @@ use Rattle.bz_rule.specs.declared.commands.field.Field.TheVariants.{ValueOf}
 use Rattle.bz_attribute.specs.Rules.{Rule, first_named, name_in, rule_of, string_value, value}
 use Rattle.bz_attribute.specs.Texts.{home_text}
 use Rattle.bz_attribute.specs.declared.done.Done.{Done}
-use Rattle.bz_rule.specs.Print.{field_text, other_text, prints, value_text, word_form}
+use Rattle.bz_rule.specs.Print.{field_text, other_text, value_text, word_form}
+use Rattle.bz_rule.specs.Reports.{prints}
 use Rattle.bz_rule.proofs.commands.print.print_name.Goals as goal
 use Rattle.bz_rule.proofs.commands.print.print_name.Goals.{in-Label, in-ValueOf}
 

@@ -1,10 +1,8 @@
-use Rattle.std.proofs.Common.{◌-◌, None, option_map, map, ap, ◌∙◌}
+use Rattle.std.proofs.Common.{None, option_map, map, ap}
 use Rattle.bz_tree.specs.Tree.{Segment}
 use Rattle.bz_tree.specs.Rows.{part_view}
 use Rattle.bz_attribute.specs.Rules.{value}
 use Rattle.bz_attribute.proofs.EditedAt.{none_first}
-use Rattle.bz_attribute.proofs.OnlyLists.{value_slice}
-use Rattle.bz_attribute.proofs.Slices.{slice_seen}
 use Rattle.bz_rule.specs.Print.{value_text}
 use Rattle.bz_rule.proofs.PrintedFields.{named_value, one_argument, one_value}
 use Rattle.bz_rule.proofs.commands.print.push_attribute.Goals as goal
@@ -17,15 +15,12 @@ returns-in_default-value_place c =
 
 pub returns : goal.returns
 returns c =
-    let at = c.in-Some.value in
-    let end = c.value_end.result in
     one_value c.args.env.home.now c.args.attr.now c.args.head (map part_view c.args.parts.now) _ _
     (λ s r h.
-    let v = c.in-Some.ensures.some s r h in
-    let own = slice_seen c.args.parts.now at (end - at) ∙ value_slice (value v.arg) v.after c.args.parts.now at end v.read (c.value_end.ensures.end (value v.arg) v.after v.read) c.value_end.ensures.within in (
+    let v = c.in-Some.ensures.some s r h in (
       value_text (value v.arg),
       ap (option_map (λ (a : Segment). value_text (value a))) v.first,
-      c.in_ok-push_value.ensures (value v.arg) own,
+      c.in_ok-push_value.ensures (value v.arg) v.after v.read,
     ))
 
 pub returns-in-Some-name : goal.returns-in-Some-name

@@ -1,31 +1,44 @@
-use Rattle.std.proofs.Common.{◌≡◌, rules, ◌∙◌, map, string_bytes, ap, sym, ◌++◌, ◌∷◌, [], List, ℕ}
-use Rattle.bz_tree.specs.declared.tree.Node.{Node}
-use Rattle.bz_tree.specs.Tree.{Segment}
-use Rattle.bz_tree.specs.View.{nodes_view, seg_view, segs_view}
-use Rattle.bz_attribute.specs.Rules.{string_value}
-use Rattle.bz_tree.proofs.Trees.Views.{view-seg}
-use Rattle.bz_rule.proofs.Printed.{element_word, next_viewed, spaced_all, spaced_from}
+use Rattle.std.proofs.Common.{◌≡◌, ◌++◌, ◌∷◌, [], ℕ, List, Option, Some, option_map, rules, map, string_bytes, ap, subst, sym, ◌∙◌}
+use Rattle.bz_tree.specs.Rows.{RowPart, part_view}
+use Rattle.bz_rule.proofs.PrintedValues.{HasElement, begun_more, pushed_first, pushed_more}
 use Rattle.bz_rule.proofs.commands.print.push_words.Goals as goal
-use Rattle.bz_rule.specs.Print.{word_form}
-use Rattle.bz_token.specs.Common.{map_or}
 
 pub loop-element-init : goal.loop-element-init
 loop-element-init c =
-    let words = map element_word (segs_view c.args.list.now) in
     let opened : string_bytes c.push_char.new.string ≡ string_bytes c.args.text.now ++ 91 ∷ [] = search rules in
     record {
       utf8 = search rules;
-      written = ap (λ (z : List ℕ). z ++ spaced_from [] words) opened ∙ ap (λ (z : List ℕ). (string_bytes c.args.text.now ++ 91 ∷ []) ++ z) (spaced_all words);
+      within = search rules;
+      begun = ([], opened);
+      pushed = pushed_first (map part_view c.args.parts.now) c.args.from (string_bytes c.args.text.now) (string_bytes c.push_char.new.string) opened;
     }
 
 pub loop-element-preserved : goal.loop-element-preserved
 loop-element-preserved c =
-    let word : map_or [] word_form (string_value (nodes_view c.deref.result.now)) ≡ element_word (seg_view c.element-item.result) =
-    ap (λ (ns : List Node). map_or [] word_form (string_value (nodes_view ns))) c.deref.ensures.value ∙ ap (λ (s : Segment). map_or [] word_form (string_value s.nodes)) (sym (view-seg c.element-item.result)) in
+    let ps : List RowPart = map part_view c.args.parts.now in
+    let e = c.in-Some.element in
+    let string : option_map (λ text. text.now) c.in-Some.element.string ≡ Some c.in-Some-string.literal.now = ap (option_map (λ text. text.now)) c.in-Some-string.is in
+    let next : HasElement ps c.loop-element.at e.token e.to (Some c.in-Some-string.literal.now) =
+    subst (λ (s : Option (List ℕ)). HasElement ps c.loop-element.at e.token e.to s) string c.in-Some.ensures.some in
     record {
       utf8 = search rules;
-      written =
-          next_viewed element_word seg_view c.args.list.now c.element-item.result c.loop-element.element-index _ _ _ c.loop-element.space.now c.loop-element-test.true c.element-item.is
-          c.in_ok-push_str.ensures.bytes (c.in_ok-push_string.ensures.word ∙ ap (λ (w : List ℕ). string_bytes c.push_str.new.string ++ w) word)
-          ∙ c.loop-element.invariant.written;
+      within = c.in-Some.ensures.within.1.1;
+      begun =
+          begun_more (string_bytes c.args.text.now) (string_bytes c.push_str.new.string) (string_bytes c.push_string.new.text) _
+          (begun_more (string_bytes c.args.text.now) (string_bytes c.loop-element.text) (string_bytes c.push_str.new.string) _ c.loop-element.invariant.begun c.in_ok-push_str.ensures.bytes)
+          c.in_ok-push_string.ensures.word;
+      pushed =
+          pushed_more ps c.args.from c.loop-element.at e.token e.to c.in-Some-string.literal.now c.loop-element.space.now (string_bytes c.args.text.now) (string_bytes c.loop-element.text)
+          (string_bytes c.push_str.new.string) (string_bytes c.push_string.new.text) c.loop-element.invariant.pushed next c.in_ok-push_str.ensures.bytes c.in_ok-push_string.ensures.word
+          (sym c.if-not-branch.false ∙ c.in_ok-push_string.ensures.is);
     }
+
+pub returns-then-not-branch-clause-begun : goal.returns-then-not-branch-clause-begun
+returns-then-not-branch-clause-begun c =
+    begun_more (string_bytes c.args.text.now) (string_bytes c.push_str.new.string) (string_bytes c.push_string.new.text) _
+    (begun_more (string_bytes c.args.text.now) (string_bytes c.loop-element.text) (string_bytes c.push_str.new.string) _ c.loop-element.invariant.begun c.in_ok-push_str.ensures.bytes)
+    c.in_ok-push_string.ensures.word
+
+pub returns-clause-begun : goal.returns-clause-begun
+returns-clause-begun c =
+    begun_more (string_bytes c.args.text.now) (string_bytes c.loop-element.text) (string_bytes c.push_char-2.new.string) _ c.loop-element.invariant.begun c.in_ok-push_char-2.ensures.bytes

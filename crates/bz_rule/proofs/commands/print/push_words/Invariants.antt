@@ -1,14 +1,16 @@
-use Rattle.std.proofs.Common.{◌≡◌, ◌++◌, ◌∷◌, [], drop, map, string_bytes}
+use Rattle.std.proofs.Common.{◌≤◌, ◌-◌, length, map, string_bytes}
 use Rattle.std.specs.Str.{IsUtf8}
-use Rattle.bz_tree.specs.View.{segs_view}
-use Rattle.bz_rule.proofs.Printed.{element_word, spaced_from}
+use Rattle.bz_tree.specs.Rows.{part_view}
+use Rattle.bz_rule.proofs.PrintedValues.{HasBegun, HasPushed}
 use Rattle.bz_rule.proofs.commands.print.push_words.Given as goal
-use Rattle.std.specs.List.{join_with_byte}
 
 abbrev pub invariant-loop-element : goal.invariant-loop-element
 invariant-loop-element l = record {
   utf8 : IsUtf8 l.space;
-  written :
-      string_bytes l.text ++ spaced_from l.space (map element_word (segs_view (drop l.element-index l.list)))
-      ≡ (string_bytes l.fn.text ++ 91 ∷ []) ++ join_with_byte 32 (map element_word (segs_view l.list));
+  within : l.at ≤ length l.parts;
+  begun : HasBegun (string_bytes l.fn.text) (string_bytes l.text);
+  pushed : HasPushed (map part_view l.parts) l.from l.at l.space (string_bytes l.fn.text) (string_bytes l.text);
 }
+
+abbrev pub decreases-loop-element : goal.decreases-loop-element
+decreases-loop-element l = length l.parts - l.at

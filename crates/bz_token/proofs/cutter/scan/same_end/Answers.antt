@@ -1,7 +1,7 @@
 use Rattle.std.proofs.Common.{not, drop, arith, length-drop}
 use Rattle.std.proofs.lemmas.List.{take_rest}
 use Rattle.std.proofs.lemmas.List.Sums.{prefix_len-le-length}
-use Rattle.bz_token.specs.Lexical.{is_newline}
+use Rattle.bz_token.specs.Common.{is_newline}
 use Rattle.bz_token.specs.private.Scans.{is_plain}
 use Rattle.bz_token.proofs.CutQuiet.{text_same_to, comment_same_to}
 use Rattle.bz_token.proofs.cutter.scan.same_end.Goals as goal

@@ -7,7 +7,8 @@ use Rattle.bz_tree.specs.declared.tree.Group.{Group as GroupValue}
 use Rattle.bz_tree.specs.declared.tree.Node.{Node, Group}
 use Rattle.bz_tree.specs.Tree.{Item, is_rule}
 use Rattle.bz_tree.specs.View.{node_view, nodes_view}
-use Rattle.bz_tree.specs.Statement.{class_of, is_assign, is_kept, is_load_word}
+use Rattle.bz_tree.specs.Statement.{class_of, is_assign, is_kept}
+use Rattle.bz_tree.specs.Kinds.{is_load_word}
 use Rattle.bz_tree.proofs.Trees.Views.{view-Group, view-group}
 use Rattle.bz_tree.proofs.Trees.Walking.{view-Token}
 use Rattle.bz_tree.proofs.tree.classes.class_of.Goals as goal
