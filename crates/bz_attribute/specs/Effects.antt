@@ -35,7 +35,8 @@ edit_part p f nodes = sum_of
 abbrev pub with_comment : List ℕ → Segment → Segment
 with_comment line s = record s { before = s.before ++ line ∷ [] }
 
--- the elements that a command means: all, or those that equal one of its values (`Chosen`)
+-- the elements that a command means: all, or those that equal one of its values (`Chosen`: this enum and
+-- `Attributes`, `Setting`, `Commented` of later files are those of `src/arguments.rt` of bz_label)
 abbrev pub is_chosen : Package → Chosen → Segment → Bool
 is_chosen home All s = true
 is_chosen home (Values values) s = list_any (λ word. equals home word s) values
@@ -88,6 +89,6 @@ with_args f s = record s {
   nodes = map_or s.nodes (λ r. nodes_of (record r { args = f r.args })) (rule_of s.nodes);
 }
 
--- a rule stands in the slot
+-- a rule stands in the slot (a `Slot` of bz_passes, which this crate does not use)
 abbrev pub holds_rule : Option Statement → Bool
 holds_rule slot = map_or false (λ s. is_some (rule_of s.nodes)) slot

@@ -39,7 +39,8 @@ sum_of pieces = join_by (λ piece. piece) (leaf Operator (codes "+") ∷ []) pie
 abbrev pub parts : List Item → List (List Segment)
 parts nodes = filter_map only_list (pieces nodes)
 
--- a piece of a value: a list part is edited by f, any other piece stays
+-- a piece of a value: a list part (as `only_list` has it, here with what else the list holds) is edited by f, any
+-- other piece stays
 abbrev pub edit_piece : (List Segment → List Segment) → List Item → List Item
 edit_piece f (group ListKind ss comma end ∷ []) = group ListKind (segs_of (f (segments ss))) comma end ∷ []
 edit_piece f piece = piece

@@ -1,6 +1,5 @@
 -- The bytes of an input that were read and not yet taken, and the chunk that they begin with (this project's
--- own rule). What a chunk is, bz_token `Chunks` says: a statement with the comment lines above it, comment
--- lines alone, or a blank line.
+-- own rule). What a chunk is, `Chunks` of bz_token says.
 -- Begin with `IsUndecided` and `IsTooLong`.
 use Rattle.std.specs.Prelude.{◌≡◌, ℕ, ◌+◌, ◌*◌, ◌<◌, ◌≤◌, Bool, false, ◌||◌, IsTrue, List, [], ◌∷◌, ◌++◌, length, take, drop, ⊤}
 use Rattle.std.specs.List.{concat}
@@ -26,8 +25,8 @@ pub record IsReadOn (max_reads : ℕ) (old new : Ahead) (pieces : List (List ℕ
   pub none_after : NoneAfterEnd pieces
   pub few : length (concat pieces) ≤ 8192 * length pieces
 
--- The first n bytes ahead are the next chunk, whatever follows. It has at most `max_statement` bytes, and at
--- most 8,192 are left after it, as many as one read gives at most.
+-- The first n bytes ahead are the next chunk, whatever follows. It has at most `max_statement` bytes. At most
+-- 8,192 are left after it, as many as one read gives at most: no read comes after the one that settles the chunk.
 pub record IsNextChunk (max_statement : ℕ) (ahead : Ahead) (n : ℕ) : Type 0 where
   pub some : 0 < n
   pub within : n ≤ length ahead.bytes

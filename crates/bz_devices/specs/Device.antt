@@ -1,6 +1,7 @@
 -- Devices: what reads gave, whether they met the end, and counts of bytes and failures (this project's own
--- rule). One piece stands for one read; an empty one is the end of the input.
--- Begin with `NoneEnds` and `Rises`.
+-- rule). One piece stands for one read; an empty one is the end of the input. A read gives at most 8,192 bytes
+-- (`PIECE` of `src/input.rt`); definitions name this number as it is.
+-- Begin with `ends`, `MayFollow`, `NoneEnds` and `Rises`.
 use Rattle.std.specs.Prelude.{◌≡◌, ℕ, ◌+◌, ◌<◌, ◌≤◌, ◌-◌, ◌^◌, Bool, false, IsTrue, List, [], ◌∷◌, ◌++◌, Option, None, Some, ⊤, true, length}
 use Rattle.bz_token.specs.Common.{is_empty, last_of, map_or}
 use Rattle.std.specs.List.{concat, AllByRecursion}

@@ -19,8 +19,9 @@ not_utf8 first n bytes = NotUtf8 (line_at first (take n bytes)) (column_at (take
 
 -- The answer for a chunk, which is read by itself: a statement, nothing where it is blank, or its first fault.
 -- At most `depth` brackets may be open at once, and its lines count from `first` (as in `Chunk`, which takes
--- these two the other way round). That memory was refused is no answer, and the fault of no file: of the two
--- faults that say it the last line leaves one out, and `IsFirstFault` (stop 3) never names the other.
+-- these two the other way round). That memory was refused is no answer, and the fault of no file. Two faults say
+-- it: the last line leaves out `Parse (OutOfMemory ..)`, and no text has `Parse (Lex (OutOfMemory ..))`, since
+-- `fault_at` of bz_token never gives it. (`SyntaxFault` is an enum of `src/report.rt`.)
 abbrev pub IsAnswerOf : ℕ → ℕ → List ℕ → Result (Option Statement) SyntaxFault → Type 0
 IsAnswerOf depth first chunk (Ok (Some s)) = IsUtf8 chunk × IsStatementIn first depth chunk s
 IsAnswerOf depth first chunk (Ok None) = IsUtf8 chunk × IsBlank first depth chunk

@@ -13,7 +13,8 @@ use Rattle.bz_engine.specs.Outcome.{Script, Run, run_with, MayGoOn}
 
 -- The chunks `front` are done, after reads that gave these pieces. Each file that begins with the pieces
 -- begins with these chunks, whatever `rest` follows (nothing, where the end was met), and goes on with the
--- chunks of what was left and of the rest. (`BeginsWith` says of one file that it begins with chunks.) The
+-- chunks of what was left and of the rest (which is why this names the rest, where `ForEveryFile` names the file
+-- alone). (`BeginsWith` says of one file that it begins with chunks.) The
 -- first of them begins on line 1. They have these statements and no fault, and do not end the run. The bytes
 -- `left` of the pieces stand after them.
 pub record AreDone (run : Run) (pieces front : List (List ℕ)) (statements : List Statement)
@@ -43,9 +44,9 @@ AreNeededAfter run most before (piece ∷ pieces) = (left : List ℕ) × IsOneNe
     × (length piece ≤ 8192) × (length (left ++ piece) ≤ most + 8192)
     × AreNeededAfter run most (before ++ piece ∷ []) pieces
 
--- The reads of a run gave these pieces: they are no more than it may make, and each was needed and no larger
--- than it may be. (So they are at most one more than there are bytes, by the law `reads_are_few`: each read
--- before the last gave a byte.)
+-- The reads of the run with these options gave these pieces: they are no more than it may make, and each was
+-- needed and no larger than it may be. (So they are at most one more than there are bytes, by the law
+-- `reads_are_few`: each read before the last gave a byte.)
 pub record AreReads (home : Package) (passes : Script) (options : Options)
     (pieces : List (List ℕ)) : Type 0 where
   pub within : length pieces ≤ options.max_reads

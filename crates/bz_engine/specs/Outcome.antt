@@ -25,7 +25,7 @@ use Rattle.bz_engine.specs.File.{AreStatementsOf, IsFile}
 abbrev pub Script : Type 0
 Script = List (Pass Target Command)
 
--- A run is what is to be done to a file: the script in the package `home`, whether it goes on after a failure
+-- A `Run` says what a run is to do to a file: the script in the package `home`, whether it goes on after a failure
 -- (buildozer's flag `-k`), and how deep brackets may stand in each other. Of the options these two alone
 -- count for the outcome. The other two limit what is read: they may stop a run (`Stops`), and change no outcome.
 pub record Run : Type 0 where

@@ -12,7 +12,8 @@ use Rattle.bz_label.specs.declared.labels.LabelFault.{LabelFault}
 use Rattle.bz_label.specs.declared.labels.LabelFault.TheVariants.{BadPackage, BadTarget}
 use Rattle.bz_label.specs.Names.{is_kind}
 
--- a package: the path of its folder, or nothing for standard input and output
+-- a package: the path of its folder, or nothing for standard input and output (what contracts see of a `Package`
+-- of `src/package.rt`)
 abbrev pub Package : Type 0
 Package = Option (List ℕ)
 
@@ -21,7 +22,7 @@ abbrev pub in_package : Package → List ℕ → List ℕ
 in_package None text = text
 in_package (Some path) text = codes "//" ++ (path ++ text)
 
--- what is meant in a package
+-- what is meant in a package (what contracts see of a `Target` of `src/target.rt`)
 pub data Target : Type 0 where
   -- the rules of a name
   Name : List ℕ → Target

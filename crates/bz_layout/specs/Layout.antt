@@ -64,7 +64,7 @@ abbrev mutual
       item_pieces style level (gap_before within first before x) x
       ++ items_pieces style level within first (x ∷ before) xs
 
-  -- segments on lines of their own, a comma after each
+  -- segments on lines of their own, and after each a comma if `comma`
   pub broken_segs : Style → ℕ → GroupKind → Bool → Segs → List Piece
   broken_segs style level kind comma no_segs = []
   broken_segs style level kind comma (seg before nodes suffix ss) =

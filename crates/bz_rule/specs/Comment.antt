@@ -12,7 +12,7 @@ use Rattle.bz_attribute.specs.declared.done.Note.TheVariants.{NoValue}
 use Rattle.bz_token.specs.Common.{map_or}
 use Rattle.std.specs.Option.{option_or}
 
--- a space or a tab
+-- a space or a tab (no text that is read has a carriage return: `breaks_line` of bz_label refuses it)
 abbrev pub is_blank : ℕ → Bool
 is_blank b = b == 32 || b == 9
 

@@ -18,7 +18,8 @@ abbrev pub move_note : List ℕ → List ℕ → List Segment → Option Note
 move_note old new args = option_or (absent_note old args)
     (option_or (no_list_note old (first_named old args)) (no_list_note new (first_named new args)))
 
--- the elements of all list parts of an argument, one after another; none where it is absent
+-- the elements of all list parts of an argument, one after another (`concat` is of bytes alone); none where it is
+-- absent
 abbrev pub elements_of : Option Segment → List Segment
 elements_of arg = map_or [] (λ a. flat_map (λ ss. ss) (parts (value a))) arg
 

@@ -32,7 +32,7 @@ words_text ss =
     codes "[" ++ join_with_byte 32 (map (λ s. map_or [] word_form (string_value s.nodes)) ss) ++ codes "]"
 
 -- a value that is no string: one list of strings with values as words in brackets, anything else as its text
--- on one line
+-- on one line (as it is laid out within the call of a rule)
 abbrev pub other_text : List Item → List ℕ
 other_text nodes =
     let flat = flat_text (Some RuleCall) nodes in
@@ -43,7 +43,7 @@ other_text nodes =
 abbrev pub value_text : List Item → List ℕ
 value_text nodes = map_or (other_text nodes) word_form (string_value nodes)
 
--- the fields that are printed: without any, the name and the kind
+-- the fields that are printed (`Field` is an enum of `src/commands/field.rt`): without any, the name and the kind
 abbrev pub fields_of : List Field → List Field
 fields_of fields = if is_empty fields then ValueOf (codes "name") ∷ Kind ∷ [] else fields
 

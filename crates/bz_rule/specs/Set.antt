@@ -20,7 +20,8 @@ list_attributes = slice_split (λ b. b == 32) (codes "srcs hdrs textual_hdrs dep
 abbrev pub is_list_attribute : List ℕ → Bool
 is_list_attribute attr = is_one_of list_attributes attr
 
--- `0`, or digits that do not begin with 0
+-- `0`, or digits that do not begin with 0: the integers of which each value has one text (`007` and `0x1` become
+-- strings)
 abbrev pub is_number : List ℕ → Bool
 is_number [] = false
 is_number (b ∷ bs) = bytes_eq (b ∷ bs) (codes "0") || list_all is_ascii_digit (b ∷ bs) && not (b == 48)

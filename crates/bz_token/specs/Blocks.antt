@@ -22,7 +22,7 @@ head_from first (u ∷ us) =
 abbrev pub word_at : List ℕ → List ℕ
 word_at bytes = take_while is_word_byte bytes
 
--- the word that makes a logical line the head of a block
+-- the word that makes a logical line the head of a block (`Opener` is an enum of `src/cutter/block.rt`)
 abbrev pub opener_of : List ℕ → Option Opener
 opener_of word =
     if bytes_eq word (codes "def") then Some Def

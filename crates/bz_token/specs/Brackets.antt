@@ -1,7 +1,7 @@
 -- Which brackets are open, and which tokens fit there (Starlark specification, "Lexical elements": a newline
 -- within brackets is white space; the greatest depth is this project's own rule). Open brackets are listed
 -- from the innermost outwards.
--- Begin with `open_after_token` and `fits`.
+-- Begin with `fits`, `open_after_token` and `open_tokens`.
 use Rattle.std.specs.Prelude.{ℕ, List, [], ◌∷◌, length, drop, Bool, true, false, not, ◌&&◌, ◌||◌, ◌==◌, nat_lt, if◌then◌else◌}
 use Rattle.bz_token.specs.declared.token.Kind.{Kind}
 use Rattle.bz_token.specs.declared.token.Kind.TheVariants.{Newline}

@@ -1,4 +1,5 @@
--- The first lexical fault of a text, and its place: what stands after the gaps and tokens that could be read.
+-- The first lexical fault of a text, and its place: what stands after the gaps and tokens that could be read
+-- (this project's own rule).
 -- Begin with `IsFirstFault`.
 use Rattle.std.specs.Prelude.{◌≡◌, ℕ, List, [], ◌++◌, true, false, ◌==◌, if◌then◌else◌, Option, Some, None, is_some}
 use Rattle.std.specs.Char.{is_ascii_digit}
@@ -10,10 +11,10 @@ use Rattle.bz_token.specs.Places.{Placed, line_at, column_at}
 use Rattle.bz_token.specs.Common.{begins, first_of, map_or}
 use Rattle.bz_token.specs.Strings.{opening}
 
--- What is wrong where no token fits, by what stands there. At the end of the text it is the innermost bracket
--- that is open. Else a string has no end, letters and digits are no number, a backslash continues no line, a
--- closing bracket does not match the innermost open one, an opening one is too deep, or no token begins with
--- the byte.
+-- What is wrong where no token fits, by what stands there (`LexFault` is an enum of `src/fault.rt`). At the end
+-- of the text it is the innermost bracket that is open. Else a string has no end, letters and digits are no
+-- number, a backslash continues no line, a closing bracket does not match the innermost open one, an opening
+-- one is too deep, or no token begins with the byte.
 abbrev pub fault_at : List ℕ → List Placed → ℕ → ℕ → Option LexFault
 fault_at [] opened line col =
     map_or None (λ bracket. Some (OpenBracket bracket.line bracket.col)) (first_of opened)

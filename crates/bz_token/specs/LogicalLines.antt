@@ -17,7 +17,7 @@ use Rattle.bz_token.specs.Brackets.{open_after_token}
 abbrev pub ends_line : List (List ℕ) → Bool
 ends_line line = map_or false (is_byte 10) (last_of line) && is_empty (fold open_after_token [] line)
 
--- And so does one that breaks off a string.
+-- The last piece is a string that a newline breaks off: that newline ends the logical line too.
 abbrev pub breaks_off : List (List ℕ) → Bool
 breaks_off line = map_or false is_broken_off (last_of line)
 
@@ -26,6 +26,7 @@ abbrev pub line_goes_on : List (List ℕ) → List ℕ → Bool
 line_goes_on line piece = not (breaks_off line || ends_line line)
 
 -- a blank line is white space alone, a comment line comments and white space, any other a statement line
+-- (`LineKind` is an enum of `src/cutter/scan.rt`)
 abbrev pub kind_of : List (List ℕ) → LineKind
 kind_of line =
     if list_all (is_space true) line then Blank

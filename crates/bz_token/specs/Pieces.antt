@@ -1,6 +1,6 @@
 -- What a file is made of, as far as cutting it goes: strings, comments, continued lines and single bytes
 -- (Starlark specification, "Lexical elements").
--- Begin with `is_piece` and `is_space`.
+-- Begin with `is_piece`, `is_broken_off` and `is_space`.
 use Rattle.std.specs.Prelude.{ℕ, List, [], ◌∷◌, Bool, true, false, not, ◌&&◌, ◌||◌, ◌==◌, bytes_eq}
 use Rattle.std.specs.List.{list_any}
 use Rattle.bz_token.specs.Common.{begins, is_newline, map_or}

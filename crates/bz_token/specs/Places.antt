@@ -19,8 +19,8 @@ column_from column (b ∷ bs) = column_from (if is_newline b then 1 else column 
 abbrev pub column_at : List ℕ → ℕ
 column_at before = column_from 1 before
 
--- A token with its place, and whether no token begins before it on its line (`fresh`, which a leaf of a tree
--- has too, by `Places` of bz_tree; nothing that `run` says depends on it).
+-- A token with its kind (an enum of `src/token.rt`) and its place, and whether no token begins before it on its
+-- line (`fresh`, which a leaf of a tree has too, by `Places` of bz_tree; nothing that `run` says depends on it).
 pub record Placed : Type 0 where
   pub kind : Kind
   pub text : List ℕ
@@ -28,6 +28,6 @@ pub record Placed : Type 0 where
   pub col : ℕ
   pub fresh : Bool
 
--- a token of the code, with its text as bytes
+-- a token of the code (a struct of `src/token.rt`), with its text as bytes
 abbrev pub placed : Token → Placed
 placed t = record { kind = t.kind; text = t.text.now; line = t.line; col = t.col; fresh = t.fresh }

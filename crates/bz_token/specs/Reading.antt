@@ -1,6 +1,6 @@
 -- What a text is read as: gaps and tokens in turn, each token the longest at its place (Starlark
 -- specification, "Lexical elements").
--- Begin with `AreTokensOf`.
+-- Begin with `AreTokensOf`, `begins_gap` and `bytes_of`.
 use Rattle.std.specs.Prelude.{◌≡◌, ℕ, List, [], ◌∷◌, ◌++◌, Bool, true, false, not, ◌==◌}
 use Rattle.std.specs.List.{list_any, list_all}
 use Rattle.bz_token.specs.declared.token.Kind.{Kind}

@@ -33,15 +33,15 @@ opens_after prefix (q ∷ bs) =
 abbrev pub prefixes : List (List ℕ)
 prefixes = [] ∷ codes "r" ∷ codes "b" ∷ codes "rb" ∷ codes "br" ∷ []
 
--- what opens the string that begins at a place: a prefix, which is what stands before the first quote, and
--- quotes
+-- what opens the string that begins at a place (`place`: the bytes from there to the end of the text, here and
+-- in later files): a prefix, which is what stands before the first quote, and quotes
 abbrev pub opening : List ℕ → Option Opening
 opening place =
     let prefix = before_first is_quote place in
     if is_one_of prefixes prefix
     then opens_after (length prefix) (drop (length prefix) place) else None
 
--- so many quotes in a row close a string
+-- how many quotes in a row close a string: three if it is long, else one
 abbrev pub quote_count : Bool → ℕ
 quote_count false = 1
 quote_count true = 3

@@ -7,13 +7,12 @@ use Rattle.bz_token.specs.declared.token.Kind.{Kind}
 use Rattle.bz_token.specs.declared.token.Kind.TheVariants.{Keyword, Kept}
 use Rattle.bz_token.specs.Blocks.{opener_of}
 use Rattle.bz_token.specs.Places.{Placed, line_at, column_at}
-use Rattle.bz_tree.specs.declared.tree.Class.TheVariants.{Block}
 use Rattle.bz_tree.specs.declared.tree.kinds.Mark.{Mark}
 use Rattle.bz_tree.specs.declared.tree.kinds.Mark.TheVariants.{Open, Close}
 use Rattle.bz_tree.specs.Tree.{leaf, is_operator_item, Statement}
 use Rattle.bz_tree.specs.Kinds.{mark_of}
 use Rattle.bz_tree.specs.Brackets.{leaf_of, end_line, is_line, without_lines}
-use Rattle.bz_tree.specs.Statement.{is_aside, bare_tokens, first_token, last_seen}
+use Rattle.bz_tree.specs.Statement.{class_of, is_aside, bare_tokens, first_token, last_seen}
 use Rattle.bz_token.specs.Common.{is_filled, last_of, map_or}
 
 -- a token of this kind and text begins a block (`opener_of` of bz_token has the words)
@@ -63,7 +62,8 @@ bad_line columns opens ((t ∷ ts) ∷ lines) =
 abbrev pub block_indent : List Placed → Option ℕ
 block_indent tokens = bad_line (1 ∷ []) false (logical_lines tokens)
 
--- how many brackets are open after a token of this mark (`open_after_token` of bz_token says which)
+-- how many brackets are open after a token of this mark (`open_after_token` of bz_token says which; in tokens that
+-- were read they match, so that a count is enough)
 abbrev pub depth_after : Mark → ℕ → ℕ
 depth_after (Open shape) depth = depth + 1
 depth_after (Close shape) depth = depth - 1
@@ -107,7 +107,7 @@ kept_statement before kept header end = record {
   before = before;
   nodes = leaf Kept kept ∷ [];
   suffix = None;
-  class = Block;
+  class = class_of (leaf Kept kept ∷ []);
   start = header.line;
   end = end;
 }

@@ -93,7 +93,8 @@ pub data AreNested : Preceding → List Placed → List Inner → Type 0 where
       → AreNested Other us within → IsGroup b opening within closing inner
       → AreNested (preceding b inner) ts inners → AreNested b (opening ∷ us ++ closing ∷ ts) (inner ∷ inners)
 
--- the mark of a newline token (`is_line` of bz_token says the same of its kind)
+-- the mark of a newline token (`is_line` of bz_token says the same of its kind; the marks are those by which
+-- `AreNested` takes tokens, and it takes no newline)
 abbrev pub is_line : Mark → Bool
 is_line Newline = true
 is_line _ = false

@@ -1,4 +1,5 @@
--- The statement of a chunk, or its fault, by the chunk's tokens.
+-- The statement of a chunk, or its fault, by the chunk's tokens (`ParseFault` is an enum of `src/fault.rt`;
+-- what is a fault, and which one is first, is this project's own rule).
 -- Begin with `IsStatementIn`, `IsBlank` and `IsFaultIn`.
 use Rattle.std.specs.Prelude.{ℕ, List, Bool, true, false, if◌then◌else◌, ◌≡◌, ◌==◌, Option, Some, None, IsSome, IsNone, ⊤}
 use Rattle.bz_token.specs.Places.{Placed}
@@ -56,7 +57,11 @@ IsTokenFault first bytes tokens (Indented line) = indent_fault tokens ≡ Some l
 IsTokenFault first bytes tokens (NotAStatement line) = IsNoStatement first bytes tokens line
 IsTokenFault first bytes tokens _ = ⊥
 
--- The statement of a chunk's bytes. Lines count from `first`, and at most `depth` brackets are open at once.
+-- What a chunk's bytes are read as is one of three: a statement, nothing, or a fault. Each is told by the tokens
+-- of the bytes; only bytes with a lexical fault have none. Lines count from `first`, and at most `depth` brackets
+-- are open at once.
+
+-- a chunk that is this statement
 pub record IsStatementIn (first depth : ℕ) (bytes : List ℕ) (s : Statement) : Type 0 where
   pub tokens : List Placed
   pub are : AreTokensOf first depth bytes tokens
@@ -75,7 +80,8 @@ pub record HasTokenFault (first depth : ℕ) (bytes : List ℕ) (fault : ParseFa
   pub is : IsTokenFault first bytes tokens fault
 
 -- The first fault of a chunk: lexical faults come before wrong indents, and these before the grammar. That memory
--- was refused says nothing of the chunk, so it holds of each; `IsAnswerOf` (bz_engine `File`) leaves it out.
+-- was refused says nothing of the chunk, so it holds of each: the contract of `parse` says of all its faults that
+-- they are this. `IsAnswerOf` (bz_engine `File`) leaves it out.
 abbrev pub IsFaultIn : ℕ → ℕ → List ℕ → ParseFault → Type 0
 IsFaultIn first depth bytes (OutOfMemory _) = ⊤
 IsFaultIn first depth bytes (Lex fault) = IsFirstFault first depth bytes fault

@@ -65,7 +65,7 @@ sign text = one_of Operator (text ∷ [])
 abbrev pub maybe : Form → Form
 maybe f = nothing or f
 
--- the segments of a bracket stand between its commas
+-- any number of segments, those between the commas of a bracket, each of this nonterminal
 abbrev pub each_segment : Nonterminal → Form
 each_segment r = many (segment (the r))
 

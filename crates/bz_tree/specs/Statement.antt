@@ -22,8 +22,9 @@ abbrev pub as_rule_call : Item → Item
 as_rule_call (leaf kind text) = leaf kind text
 as_rule_call (group kind segs one_comma end) = group RuleCall segs one_comma end
 
--- The nodes and comments of a statement, of what stands in it outside brackets: this is one cell, in which a
--- comma is a node; its end comments stand before it too. The call of a rule is made a `RuleCall`.
+-- What stands in a statement outside brackets (`inners`) is one cell, in which a comma is a node. Its segment has
+-- the nodes and comments of the statement: the end comments of the cell stand before it too. The call of a rule
+-- is made a `RuleCall`.
 abbrev pub segment_of : List Inner → Segment
 segment_of inners =
     let cell = with_comma_nodes true inners in
@@ -42,12 +43,14 @@ assignments = codes "=" ∷ augmented
 abbrev pub is_assign : Item → Bool
 is_assign x = is_operator_among assignments x
 
--- the one node of a block, its text (`Blocks`)
+-- the one node of a block, its text: `kept_statement` of `Blocks`, the next file but one, makes it, and no token
+-- is one
 abbrev pub is_kept : Item → Bool
 is_kept (leaf Kept text) = true
 is_kept _ = false
 
--- The class of a statement, by its nodes: without nodes it is comment lines alone.
+-- The class of a statement, by its nodes: without nodes it is comment lines alone. (`Class` is an enum of
+-- `src/tree.rt`.)
 abbrev pub class_of : List Item → Class
 class_of [] = Comment
 class_of (x ∷ xs) =
