@@ -45,7 +45,7 @@ is_chosen home (Values values) s = list_any (λ word. equals home word s) values
 abbrev pub unchosen : Package → Chosen → List Segment → List Segment
 unchosen home chosen ss = filter (λ s. not (is_chosen home chosen s)) ss
 
--- the whole value is one list, and f leaves nothing of it
+-- the whole value is one list with elements, and f leaves none of them
 abbrev pub loses_all : (List Segment → List Segment) → List Item → Bool
 loses_all f nodes = map_or false (λ ss. not (is_empty ss) && is_empty (f ss)) (only_list nodes)
 

@@ -7,7 +7,7 @@ use Rattle.bz_label.specs.Labels.{Package, in_package, Target, Name, Pkg, All, K
 use Rattle.bz_attribute.specs.Rules.{rule_of, kind_text, name_in}
 use Rattle.bz_token.specs.Common.{map_or}
 
--- a package and the colon after it
+-- a package and the colon after it, as in a label: standard input is `-`
 abbrev pub home_text : Package → List ℕ
 home_text home = map_or (codes "-:") (λ path. in_package (Some path) (codes ":")) home
 

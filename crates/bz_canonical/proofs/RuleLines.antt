@@ -15,7 +15,7 @@ use Rattle.bz_token.proofs.OneFault.{one_tokens}
 use Rattle.bz_token.proofs.Progress.{newlines, newlines-append, one_line_newlines}
 use Rattle.bz_tree.specs.Blocks.{is_block_word}
 use Rattle.bz_tree.specs.Brackets.{end_line}
-use Rattle.bz_tree.specs.Chunk.{IsOneOf, IsPlain, IsStatementIn}
+use Rattle.bz_tree.specs.Chunk.{IsBlockOrPlain, IsPlain, IsStatementIn}
 use Rattle.bz_tree.specs.Comments.{beside}
 use Rattle.bz_tree.specs.Statement.{bare_tokens, end_of, first_seen, first_token, is_aside, last_seen, start_of}
 use Rattle.bz_tree.specs.Tree.{Statement, segs_of}
@@ -45,7 +45,7 @@ lines_of_tokens first depth c s t formed class is =
     let are = lines_are_tokens first depth (text_by c s) (tokens_by first c s) (lines_by first depth c s legible formed.depth_fits) in
     let same : is.tokens ≡ tokens_by first c s = one_tokens first depth (text_by c s) is.tokens (tokens_by first c s) is.are are in
     let word = (upright (tokens_by first c s) (front_by first c s legible class (formed_no_block depth s formed))).1 in
-    let plain : IsPlain is.tokens t = subst (λ b. IsOneOf b first (text_by c s) is.tokens t) (ap (λ ts. map_or false is_block_word (first_token ts)) same ∙ word) is.reads.chunk in
+    let plain : IsPlain is.tokens t = subst (λ b. IsBlockOrPlain b first (text_by c s) is.tokens t) (ap (λ ts. map_or false is_block_word (first_token ts)) same ∙ word) is.reads.chunk in
     (ap (λ (u : Statement). u.start) plain.tree.is ∙ ap start_of same, ap (λ (u : Statement). u.end) plain.tree.is ∙ ap end_of same)
 
 -- the first token that is no comment

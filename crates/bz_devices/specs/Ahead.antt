@@ -59,8 +59,9 @@ abbrev pub NoneIsChunk : List ℕ → Type 0
 NoneIsChunk bytes = (n : ℕ) → 0 < n → n ≤ length bytes
     → ((rest : List ℕ) → EndsBefore (take n bytes) (drop n bytes ++ rest)) → ⊥
 
--- These bytes leave the next chunk open: no front of them is a chunk whatever follows, and it is not sure to
--- be too long.
+-- These bytes, after which no end was met, leave the next chunk open: no front of them is a chunk whatever follows,
+-- and it is not sure to be too long. (`IsNextChunk` and `IsTooLong` say so of bytes after which the end may have been
+-- met.)
 pub record IsUndecided (max_statement : ℕ) (bytes : List ℕ) : Type 0 where
   pub none_is_chunk : NoneIsChunk bytes
   pub none_too_long : ((rest : List ℕ) → BeginsTooLong max_statement bytes rest) → ⊥

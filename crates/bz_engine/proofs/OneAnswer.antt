@@ -16,7 +16,7 @@ use Rattle.bz_tree.specs.Brackets.{without_lines, AreNested, no_token}
 use Rattle.bz_tree.specs.declared.tree.kinds.Preceding.TheVariants.{Other}
 use Rattle.bz_tree.specs.Statement.{bare_tokens, first_seen, segment_of, statement_with}
 use Rattle.bz_tree.specs.Grammar.{none as no_nodes, by_production, former}
-use Rattle.bz_tree.specs.Chunk.{IsPlain, IsOneOf, indent_at, indent_fault, IsChunkOf, IsReadAs, IsNoStatement}
+use Rattle.bz_tree.specs.Chunk.{IsPlain, IsBlockOrPlain, indent_at, indent_fault, IsChunkOf, IsReadAs, IsNoStatement}
 use Rattle.bz_tree.proofs.Trees.Sound.{some_injective}
 use Rattle.bz_tree.proofs.Trees.Standing.{bare_empty}
 use Rattle.bz_layout_laws.proofs.ChunkLaws.{chunk_same}
@@ -43,7 +43,7 @@ blank_plain ts bare = record {
 
 blank_chunk : (first : ℕ) (bytes : List ℕ) (ts : List Placed) → IsNone (first_seen ts) → IsChunkOf first bytes ts (statement_with ts (segment_of []))
 blank_chunk first bytes ts none =
-    subst (λ b. IsOneOf b first bytes ts (statement_with ts (segment_of []))) (sym (ap (λ l. map_or false is_block_word (first_of l)) (none_counts ts none)))
+    subst (λ b. IsBlockOrPlain b first bytes ts (statement_with ts (segment_of []))) (sym (ap (λ l. map_or false is_block_word (first_of l)) (none_counts ts none)))
     (blank_plain ts (nothing_seen (without_lines ts) none))
 
 blank_upright : (ts : List Placed) → IsNone (first_seen ts) → indent_fault ts ≡ None

@@ -31,7 +31,8 @@ IsAnswerOf depth first chunk (Err (Parse fault)) =
     IsUtf8 chunk × IsFaultIn first depth chunk fault × (fault ≢ OutOfMemory no_memory)
 
 -- A chunk with such an answer and the chunks after it have these statements and this fault together; `After`
--- says what the chunks after it have by themselves. A fault ends the list.
+-- says what the chunks after it have by themselves (an argument, since `AreStatementsOf` below, which uses this, says
+-- it). A fault ends the list.
 abbrev pub Follows : Result (Option Statement) SyntaxFault → (List Statement → Option SyntaxFault → Type 0)
     → List Statement → Option SyntaxFault → Type 0
 Follows (Err f) After statements fault = (statements ≡ []) × (fault ≡ Some f)

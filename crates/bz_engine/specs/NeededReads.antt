@@ -11,12 +11,11 @@ use Rattle.bz_engine.specs.declared.options.Options.{Options}
 use Rattle.bz_engine.specs.File.{AreStatementsOf}
 use Rattle.bz_engine.specs.Outcome.{Script, Run, run_with, MayGoOn}
 
--- The chunks `front` are done, after reads that gave these pieces. Each file that begins with the pieces
--- begins with these chunks, whatever `rest` follows (nothing, where the end was met), and goes on with the
--- chunks of what was left and of the rest (which is why this names the rest, where `ForEveryFile` names the file
--- alone). (`BeginsWith` says of one file that it begins with chunks.) The
--- first of them begins on line 1. They have these statements and no fault, and do not end the run. The bytes
--- `left` of the pieces stand after them.
+-- After reads that gave these pieces the chunks `front` are done, and the bytes `left` of the pieces stand after
+-- them (`bytes_are` follows from `chunks_are`, and is said to be read). Each file that begins with the pieces begins
+-- with these chunks, and goes on with those of `left` and of `rest`, which is what follows the pieces: nothing, where
+-- the end was met. (`ForEveryFile` does not name that rest, and `BeginsWith` speaks of one file.) The first chunk
+-- begins on line 1. The chunks have these statements and no fault, and do not end the run.
 pub record AreDone (run : Run) (pieces front : List (List ℕ)) (statements : List Statement)
     (left : List ℕ) : Type 0 where
   pub bytes_are : concat pieces ≡ concat front ++ left
@@ -39,10 +38,10 @@ pub record IsOneNeeded (run : Run) (max_statement : ℕ) (pieces : List (List �
 -- together at most 8,192 more than the longest chunk may have. (`AreNeeded` of bz_devices, in no stop, says of
 -- the reads for one chunk that they were needed.)
 abbrev pub AreNeededAfter : Run → ℕ → List (List ℕ) → List (List ℕ) → Type 0
-AreNeededAfter run most before [] = ⊤
-AreNeededAfter run most before (piece ∷ pieces) = (left : List ℕ) × IsOneNeeded run most before left
-    × (length piece ≤ 8192) × (length (left ++ piece) ≤ most + 8192)
-    × AreNeededAfter run most (before ++ piece ∷ []) pieces
+AreNeededAfter run max_statement before [] = ⊤
+AreNeededAfter run max_statement before (piece ∷ pieces) = (left : List ℕ) × IsOneNeeded run max_statement before left
+    × (length piece ≤ 8192) × (length (left ++ piece) ≤ max_statement + 8192)
+    × AreNeededAfter run max_statement (before ++ piece ∷ []) pieces
 
 -- The reads of the run with these options gave these pieces: they are no more than it may make, and each was
 -- needed and no larger than it may be. (So they are at most one more than there are bytes, by the law

@@ -39,7 +39,8 @@ abbrev pub run_with : Package → Script → Options → Run
 run_with home passes options =
     record { home = home; passes = passes; keep_going = options.keep_going; max_depth = options.max_depth }
 
--- The script is a query: its commands all print, so it only asks.
+-- The script is a query: its commands all print, so it only asks. One without commands is a query too: it writes
+-- nothing.
 abbrev pub is_query : Script → Bool
 is_query passes = list_all (λ p. list_all is_print p.commands) passes
 
@@ -125,7 +126,7 @@ pub record BeginsWith (max_depth : ℕ) (file : List ℕ) (statements : List Sta
 
 -- How a run ends after the statements that it edits, and what is told: the file has no others before its end
 -- or its first fault; or an execution fails on the next one, s, and failures end the run. Here `told.changed`
--- may be anything: `IsOutcome` says what it is.
+-- may be anything: `IsOutcome` says what it is (`Changes` is a statement, and no `Bool`).
 pub data RunEnds (run : Run) (file : List ℕ) (edited : List Statement) (told : Told) : Type 0 where
   at_the_end : (fault : Option SyntaxFault) → IsFile run.max_depth file edited fault
       → told ≡ told_of run.home run.passes edited fault told.changed → RunEnds run file edited told
@@ -135,7 +136,8 @@ pub data RunEnds (run : Run) (file : List ℕ) (edited : List Statement) (told :
 
 -- The outcome of a run over a file is the text that is written, and what is told. All executions on the
 -- statements `edited` take place, and no failure among them ends the run. Something changed
--- exactly if an execution on these changes something; a statement at which the run ends does not count.
+-- exactly if an execution on these changes something; a statement at which the run ends does not count. So after a
+-- fault or a failure the text lacks the rest of the file: the program keeps no such text (`is_kept` of bz_program).
 pub record IsOutcome (run : Run) (file text : List ℕ) (told : Told) : Type 0 where
   pub edited : List Statement
   pub ends : RunEnds run file edited told

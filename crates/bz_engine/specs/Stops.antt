@@ -23,17 +23,17 @@ pub record ComesNext (max_statement : ℕ) (pieces cs : List (List ℕ)) (chunk 
   pub size : length chunk ≤ max_statement
   pub after : ForEveryFile pieces (λ file. (others : List (List ℕ)) × (chunks file ≡ cs ++ chunk ∷ others))
 
--- What ends a run when the chunks `cs` are done and a chunk may have `most` bytes, for each end (`End`, in
+-- What ends a run when the chunks `cs` are done and a chunk may have `max_statement` bytes, for each end (`End`, in
 -- `src/report.rt`): the file has no other chunk (`Whole`), or the next one has this fault, or an execution
 -- fails on the statement of the next one, and failures end the run. `RunEnds` (`Outcome`) names the same ends
 -- by the statements of one file. This adds which chunk ends the run, that it is no longer than it may be, and
 -- that all this holds whatever stands after what was read.
 abbrev pub EndsAfter : Run → ℕ → List (List ℕ) → List (List ℕ) → End → Type 0
-EndsAfter run most pieces cs Whole = ForEveryFile pieces (λ file. chunks file ≡ cs)
-EndsAfter run most pieces cs (Syntax fault) = (chunk : List ℕ) × ComesNext most pieces cs chunk
+EndsAfter run max_statement pieces cs Whole = ForEveryFile pieces (λ file. chunks file ≡ cs)
+EndsAfter run max_statement pieces cs (Syntax fault) = (chunk : List ℕ) × ComesNext max_statement pieces cs chunk
     × IsAnswerOf run.max_depth (line_at 1 (concat cs)) chunk (Err fault)
-EndsAfter run most pieces cs FirstFailure = (run.keep_going ≡ false)
-    × (chunk : List ℕ) × ComesNext most pieces cs chunk
+EndsAfter run max_statement pieces cs FirstFailure = (run.keep_going ≡ false)
+    × (chunk : List ℕ) × ComesNext max_statement pieces cs chunk
     × (s : Statement) × IsAnswerOf run.max_depth (line_at 1 (concat cs)) chunk (Ok (Some s))
     × (some_failure run.home run.passes (s ∷ []) ≡ true)
 
@@ -42,8 +42,8 @@ abbrev pub AllFit : ℕ → List (List ℕ) → Type 0
 AllFit max_statement cs = AllByRecursion (λ chunk. length chunk ≤ max_statement) cs
 
 -- A run came to this end after reads that gave these pieces. The chunks `front`, none of them too long, are
--- done and do not end the run, and no other was looked at but the one that ends it (`last`). They have these
--- statements, and the bytes `left` of the pieces stand after them.
+-- done and do not end the run. They have these statements, and the bytes `left` of the pieces stand after them. The
+-- end follows from them and from the chunk that ends the run (`last`): no other counts.
 pub record HasEndedAt (run : Run) (max_statement : ℕ) (pieces : List (List ℕ)) (end : End) : Type 0 where
   pub front : List (List ℕ)
   pub statements : List Statement

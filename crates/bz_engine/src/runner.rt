@@ -30,8 +30,8 @@ pub fn run<S: Source, W: Sink>(
 ) -> Result<Report, RunFault>
     requires { options.max_reads ≤ 2 ^ 50 }
     // For every file that begins with what the source gave (once its end was met, for that file), the bytes that were
-    // appended and the report are the outcome of the passes over its statements. Each read was needed, and no chunk was
-    // looked at but those that are done and the one that ended the run.
+    // appended and the report are the outcome of the passes over its statements. Each read was needed, and no chunk
+    // counts but those that are done and the one that ended the run.
     ensures outcome { IfOk result (λ report. (pieces : List (List ℕ)) × (text : List ℕ)
         × S.gave source.old pieces source.new × W.took sink.old text sink.new
         × AreReads home passes.items options pieces
@@ -39,15 +39,16 @@ pub fn run<S: Source, W: Sink>(
         (λ file. IsOutcome (run_with home passes.items options) file text (told_by report))
         × HasEndedAt (run_with home passes.items options) options.max_statement pieces report.end) }
     // Before a fault a front of the text was written that is written for each such file: that of the chunks that are
-    // done, and, where a write failed, a front of what the next one adds. The fault tells what it does of a step: of a
-    // chunk that is too long, which is the next one, and that it has more bytes than it may, among those that were given.
+    // done, and, where a write failed, a front of what the next one adds. What the fault says is true of the next chunk
+    // and of the bytes that were given (`Tells` of `Stops`).
     ensures stopped { IfErr result (λ fault. (pieces : List (List ℕ)) × (text : List ℕ)
         × S.gave source.old pieces source.new × W.took sink.old text sink.new
         × AreReads home passes.items options pieces
         × ForEveryFile pieces (λ file. (whole : List ℕ) (told : Told)
         → IsOutcome (run_with home passes.items options) file whole told → IsFrontOf text whole)
         × HasStopped (run_with home passes.items options) options pieces text fault) }
-    // Whatever is answered, the devices gave and took what reads and writes gave and took.
+    // `devices`, `too_long` and `going` follow from `outcome` and `stopped`; they are said apart to be read alone.
+    // Whatever is answered, nothing but reads and writes happened to the devices.
     ensures devices { (pieces : List (List ℕ)) × (text : List ℕ)
         × S.gave source.old pieces source.new × W.took sink.old text sink.new }
     ensures steady { (result ≢ Err RunFault.ReadFailed → S.failures source.new ≡ S.failures source.old)

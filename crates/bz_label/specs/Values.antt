@@ -1,9 +1,6 @@
 -- The values of string literals (Starlark specification, "String literals"), and how a value is written as
--- one. Which literals have no value, and the written form, are this project's own rule. A unit is a byte, or
--- an escape: a backslash and what it takes along (`units`). `Strings` of bz_token says these of a text: what
--- opens a literal (`opening`: the number of prefix letters, and the quotes, `Opening` in
--- `src/scan_string.rt`), how many quotes that are (`quote_count`: three, or one), the units after the opening
--- quotes (`inside`), and whether all of it is one literal (`is_string`).
+-- one. Which literals have no value, and the written form, are this project's own rule. `opening`, `quote_count`,
+-- `inside`, `units` and `is_string` are those of bz_token `Strings`; a unit is a byte or an escape.
 -- Begin with `value_of` and `quoted`.
 use Rattle.std.specs.Prelude.{ℕ, ◌-◌, ◌==◌, List, [], ◌∷◌, ◌++◌, Bool, true, false, ◌&&◌, if◌then◌else◌, Option, Some, None, option_map, codes, length, take, bytes_eq, option_and_then}
 use Rattle.std.specs.List.{flat_map, find}

@@ -13,7 +13,7 @@ use Rattle.bz_tree.specs.declared.tree.kinds.Mark.{Mark}
 use Rattle.bz_tree.specs.declared.tree.kinds.Mark.TheVariants.{Open, Close, Comma, Comment as Remark, Newline, Plain}
 use Rattle.bz_tree.specs.declared.tree.Class.TheVariants.{Block}
 use Rattle.bz_tree.specs.Brackets.{without_lines}
-use Rattle.bz_tree.specs.Chunk.{IsOneOf}
+use Rattle.bz_tree.specs.Chunk.{IsBlockOrPlain}
 use Rattle.bz_tree.specs.Kinds.{operator_mark}
 use Rattle.bz_tree.specs.Statement.{first_seen, first_token}
 use Rattle.bz_tree.specs.Tree.{Item, leaf, group, Items, no_items, item, Segs, no_segs, seg, Statement, items_of}
@@ -43,7 +43,7 @@ unseen_words : (ts : List Placed) → IsNone (first_seen ts) → words_among ts 
 unseen_words ts none = sym (lines_words ts) ∙ ap words_among (no_first (without_lines ts) none)
 
 -- a statement that is no block has the words of its tokens
-chunk_words : (b : Bool) (line : ℕ) (chunk : List ℕ) (ts : List Placed) (s : Statement) → IsOneOf b line chunk ts s → (s.class ≡ Block → ⊥) → words_among ts ≡ words_of s
+chunk_words : (b : Bool) (line : ℕ) (chunk : List ℕ) (ts : List Placed) (s : Statement) → IsBlockOrPlain b line chunk ts s → (s.class ≡ Block → ⊥) → words_among ts ≡ words_of s
 chunk_words true line chunk ts s block none = absurd (none (ap (λ (t : Statement). t.class) block.is))
 chunk_words false line chunk ts s plain none = sym (statement_words ts s plain.tree)
 

@@ -5,7 +5,7 @@ use Rattle.std.specs.List.{AllByRecursion}
 use Rattle.bz_token.specs.Chunks.{chunks}
 use Rattle.bz_token.specs.Places.{line_at}
 use Rattle.bz_token.proofs.ChunkLaws.{first_chunk}
-use Rattle.bz_tree.specs.Chunk.{IsOneOf}
+use Rattle.bz_tree.specs.Chunk.{IsBlockOrPlain}
 use Rattle.bz_tree.specs.Statement.{first_token}
 use Rattle.bz_tree.specs.Tree.{Statement}
 use Rattle.bz_layout_laws.specs.BlockIn.{IsBlockIn}
@@ -39,7 +39,7 @@ kept_block line depth chunk s alone block = record {
 pub given_sound : (depth line : ℕ) (chunk : List ℕ) (s : Statement) → chunks chunk ≡ chunk ∷ [] → IsAnswerOf depth line chunk (Ok (Some s)) → IsSound depth s
 given_sound depth line chunk s alone gives = by (map_or false is_block_word (first_token gives.1.tokens)) refl gives.1.reads.chunk
   where
-    by : (b : Bool) → map_or false is_block_word (first_token gives.1.tokens) ≡ b → IsOneOf b line chunk gives.1.tokens s → IsSound depth s
+    by : (b : Bool) → map_or false is_block_word (first_token gives.1.tokens) ≡ b → IsBlockOrPlain b line chunk gives.1.tokens s → IsSound depth s
     by true begins is =
         let block : IsBlockIn line depth chunk s = record { tokens = gives.1.tokens; are = gives.1.are; reads = gives.1.reads; begins = begins } in
         record { form = inr (kept_block line depth chunk s alone block); utf8 = block_utf8 line depth chunk s gives.0 block }

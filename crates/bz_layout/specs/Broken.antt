@@ -19,7 +19,8 @@ breaks_by_count Dict n = nat_le 1 n
 breaks_by_count _ n = false
 
 -- A group is broken by a comment in it, by the number of its segments, or, if it has two or more, by a broken
--- group in one of them (`inside`: written with its segments side by side, it would still hold a new line).
+-- group in one of them (`inside`: written with its segments side by side, it would still hold a new line before a
+-- token or a comment).
 abbrev pub is_broken : GroupKind → List Segment → List (List ℕ) → Bool → Bool
 is_broken kind ss end inside = is_filled end || list_any has_comment ss || breaks_by_count kind (length ss)
     || nat_le 2 (length ss) && inside

@@ -37,7 +37,7 @@ abbrev pub begins_line : Gap → Bool
 begins_line (Line level) = true
 begins_line _ = false
 
--- pieces that do not all stand on one line
+-- some piece begins a new line (a newline within a string is none)
 abbrev pub are_lined : List Piece → Bool
 are_lined ps = list_any (λ p. begins_line p.gap) ps
 

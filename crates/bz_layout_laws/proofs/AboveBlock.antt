@@ -11,7 +11,7 @@ use Rattle.bz_tree.specs.declared.tree.kinds.Mark.{Mark}
 use Rattle.bz_tree.specs.declared.tree.kinds.Mark.TheVariants.{Open, Close, Comma, Comment, Newline, Plain}
 use Rattle.bz_tree.specs.Blocks.{above, IsBlockOf}
 use Rattle.bz_tree.proofs.Trees.LogicalLines.{above_at, above_by_token, above_is}
-use Rattle.bz_tree.specs.Chunk.{IsOneOf}
+use Rattle.bz_tree.specs.Chunk.{IsBlockOrPlain}
 use Rattle.bz_tree.specs.Kinds.{mark_of}
 use Rattle.bz_tree.specs.Tree.{Statement}
 use Rattle.bz_layout_laws.specs.BlockIn.{IsBlockIn}
@@ -40,7 +40,7 @@ above_pass : (test : Placed → Bool) (q : List ℕ → Bool) → Passed test q 
 above_pass test q passed ts h = ap (list_all q) (above_is ts) ∙ each_passes test q passed ts h
 
 pub block_of : (first depth : ℕ) (bytes : List ℕ) (s : Statement) → (b : IsBlockIn first depth bytes s) → IsBlockOf first bytes b.tokens s
-block_of first depth bytes s b = subst (λ w. IsOneOf w first bytes b.tokens s) b.begins b.reads.chunk
+block_of first depth bytes s b = subst (λ w. IsBlockOrPlain w first bytes b.tokens s) b.begins b.reads.chunk
 
 before_above : (first depth : ℕ) (bytes : List ℕ) (s : Statement) → (b : IsBlockIn first depth bytes s) → s.before ≡ above b.tokens
 before_above first depth bytes s b = ap (λ (t : Statement). t.before) (block_of first depth bytes s b).is

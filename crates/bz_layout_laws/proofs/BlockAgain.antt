@@ -8,7 +8,7 @@ use Rattle.bz_token.proofs.Progress.{column_from-append, lines_of}
 use Rattle.bz_layout_laws.proofs.Readable.{laid_tokens}
 use Rattle.bz_tree.specs.Blocks.{above, is_block_word, block_indent, is_block, kept_statement, IsKeptText, IsBlockOf}
 use Rattle.bz_tree.specs.Brackets.{without_lines, end_line}
-use Rattle.bz_tree.specs.Chunk.{IsOneOf, IsChunkOf, IsReadAs, IsStatementIn, indent_at, indent_fault}
+use Rattle.bz_tree.specs.Chunk.{IsBlockOrPlain, IsChunkOf, IsReadAs, IsStatementIn, indent_at, indent_fault}
 use Rattle.std.specs.List.{last_or as last_of}
 use Rattle.bz_tree.specs.Statement.{first_token, first_seen, last_seen}
 use Rattle.bz_tree.specs.Tree.{Statement}
@@ -82,7 +82,7 @@ block_again first second depth bytes s b texts more h =
       are = are;
       begins = begins;
       found = found;
-      reads = record { upright = upright; some = some_seen tokens t.last t.is_last; chunk = subst (λ w. IsOneOf w second text tokens found) (sym begins) is };
+      reads = record { upright = upright; some = some_seen tokens t.last t.is_last; chunk = subst (λ w. IsBlockOrPlain w second text tokens found) (sym begins) is };
       same = ap (λ ns. lineless (with_above ns found)) comments ∙ ap (λ x. lineless (with_above texts x)) (sym b.is);
     }
   where

@@ -9,7 +9,7 @@ use Rattle.bz_layout_laws.proofs.Readable.{read_is_laid}
 use Rattle.bz_tree.specs.declared.tree.Class.TheVariants.{Block}
 use Rattle.bz_tree.specs.Blocks.{above, is_block_word_at, is_block_word, block_indent, is_block, kept_statement, IsKeptText, IsBlockOf}
 use Rattle.bz_tree.specs.Brackets.{end_line}
-use Rattle.bz_tree.specs.Chunk.{IsOneOf, indent_at}
+use Rattle.bz_tree.specs.Chunk.{IsBlockOrPlain, indent_at}
 use Rattle.bz_tree.specs.Statement.{first_token, last_seen}
 use Rattle.bz_tree.specs.Tree.{leaf, Statement}
 use Rattle.bz_tree.proofs.Trees.Sound.{none_is_some, some_injective}
@@ -50,7 +50,7 @@ no_fault t tokens word h = by (t.col == 1) refl h
 
 pub body_of : (first depth : ℕ) (bytes : List ℕ) (s : Statement) → IsBlockIn first depth bytes s → Body first depth bytes s
 body_of first depth bytes s b =
-    let a : IsBlockOf first bytes b.tokens s = subst (λ w. IsOneOf w first bytes b.tokens s) b.begins b.reads.chunk in
+    let a : IsBlockOf first bytes b.tokens s = subst (λ w. IsBlockOrPlain w first bytes b.tokens s) b.begins b.reads.chunk in
     let pieces = b.are.0 in
     let rest = b.are.1 in
     let laid = read_is_laid depth [] pieces rest bytes b.are.2 in

@@ -5,7 +5,7 @@ use Rattle.std.proofs.lemmas.Bool.{false≢true}
 use Rattle.bz_token.specs.declared.token.Kind.TheVariants.{Kept}
 use Rattle.bz_tree.specs.declared.tree.Class.{Class}
 use Rattle.bz_tree.specs.declared.tree.Class.TheVariants.{Load, Assign, Rule, Other, Block}
-use Rattle.bz_tree.specs.Chunk.{IsOneOf, IsStatementIn}
+use Rattle.bz_tree.specs.Chunk.{IsBlockOrPlain, IsStatementIn}
 use Rattle.bz_tree.specs.Statement.{class_of, first_token, is_assign}
 use Rattle.bz_tree.specs.Kinds.{is_load_word}
 use Rattle.bz_tree.specs.Tree.{Item, leaf, group, Statement, items_of, is_rule}
@@ -40,7 +40,7 @@ none_kept (x ∷ xs) h =
 pub known_by_class : (first depth : ℕ) (bytes : List ℕ) (s : Statement) → IsStatementIn first depth bytes s → s.class ≡ Block → IsBlockIn first depth bytes s
 known_by_class first depth bytes s is class = by (map_or false is_block_word (first_token is.tokens)) refl is.reads.chunk
   where
-    by : (b : Bool) → map_or false is_block_word (first_token is.tokens) ≡ b → IsOneOf b first bytes is.tokens s → IsBlockIn first depth bytes s
+    by : (b : Bool) → map_or false is_block_word (first_token is.tokens) ≡ b → IsBlockOrPlain b first bytes is.tokens s → IsBlockIn first depth bytes s
     by true begins chunk = record { tokens = is.tokens; are = is.are; reads = is.reads; begins = begins }
     by false begins chunk =
         let texts = read_texts first depth bytes is.tokens s is.are chunk.tree in

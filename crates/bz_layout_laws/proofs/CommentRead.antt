@@ -4,7 +4,7 @@ use Rattle.std.specs.Prelude.{codes, if◌then◌else◌}
 use Rattle.bz_token.specs.Places.{Placed, line_at}
 use Rattle.bz_token.specs.Reading.{Piece, tokens_of, token_of}
 use Rattle.bz_tree.specs.Brackets.{is_line as is_line_mark, without_lines, AreNested}
-use Rattle.bz_tree.specs.Chunk.{IsOneOf, IsPlain, IsStatementIn, indent_at}
+use Rattle.bz_tree.specs.Chunk.{IsBlockOrPlain, IsPlain, IsStatementIn, indent_at}
 use Rattle.bz_tree.specs.declared.tree.kinds.Preceding.TheVariants.{Other}
 use Rattle.bz_tree.specs.Grammar.{IsStatement}
 use Rattle.bz_tree.specs.Kinds.{mark_of}
@@ -76,7 +76,7 @@ comments_read first depth s legible parsed room grammar class =
         reads = record {
           upright = ap (λ o. indent_at o all) none;
           some = some_seen first s parsed class;
-          chunk = subst (λ b. IsOneOf b first bytes all t) (sym (ap (map_or false is_block_word) none)) plain;
+          chunk = subst (λ b. IsBlockOrPlain b first bytes all t) (sym (ap (map_or false is_block_word) none)) plain;
         };
       },
       same,

@@ -6,7 +6,7 @@ use Rattle.bz_token.specs.Places.{Placed}
 use Rattle.bz_token.specs.Reading.{tokens_of}
 use Rattle.bz_token.proofs.OneFault.{one_tokens}
 use Rattle.bz_tree.specs.Brackets.{without_lines}
-use Rattle.bz_tree.specs.Chunk.{IsOneOf, IsPlain, IsStatementIn, indent_at, indent_fault}
+use Rattle.bz_tree.specs.Chunk.{IsBlockOrPlain, IsPlain, IsStatementIn, indent_at, indent_fault}
 use Rattle.bz_tree.specs.Grammar.{IsStatement}
 use Rattle.bz_tree.specs.Statement.{first_token, first_seen, bare_tokens}
 use Rattle.bz_tree.specs.Tree.{Statement, items_of}
@@ -86,7 +86,7 @@ parsed_by first depth c s legible parsed room free word grammar =
         reads = record {
           upright = stands.indent;
           some = stands.some;
-          chunk = subst (λ b. IsOneOf b first (text_by c s) tokens t) (sym stands.block) plain;
+          chunk = subst (λ b. IsBlockOrPlain b first (text_by c s) tokens t) (sym stands.block) plain;
         };
       },
       found.2,
@@ -106,5 +106,5 @@ parsed_only first depth s t legible parsed room word is =
     let are = lines_are_tokens first depth (layout_text s) tokens (read_lines first depth s legible room) in
     let same : is.tokens ≡ tokens = one_tokens first depth (layout_text s) is.tokens tokens is.are are in
     let stands = subst (λ ps. Upright (tokens_of first [] [] (read_pieces ps))) (statement_own s) (is_upright first own s legible parsed word) in
-    let plain : IsPlain is.tokens t = subst (λ b. IsOneOf b first (layout_text s) is.tokens t) (ap (λ ts. map_or false is_block_word (first_token ts)) same ∙ stands.block) is.reads.chunk in
+    let plain : IsPlain is.tokens t = subst (λ b. IsBlockOrPlain b first (layout_text s) is.tokens t) (ap (λ ts. map_or false is_block_word (first_token ts)) same ∙ stands.block) is.reads.chunk in
     statement_only first depth s t is.tokens legible parsed room is.are plain.tree

@@ -12,7 +12,7 @@ use Rattle.bz_tree.specs.Tree.{Segment, Statement, items_of}
 use Rattle.bz_tree.specs.Statement.{first_token, first_seen, last_seen, start_of, statement_with}
 use Rattle.bz_tree.specs.Brackets.{end_line}
 use Rattle.bz_tree.specs.Blocks.{is_block, above, kept_statement, IsBlockOf, is_block_word}
-use Rattle.bz_tree.specs.Chunk.{IsPlain, IsOneOf, indent_fault, IsChunkOf}
+use Rattle.bz_tree.specs.Chunk.{IsPlain, IsBlockOrPlain, indent_fault, IsChunkOf}
 use Rattle.bz_tree.specs.private.Steps.{new_level, run}
 use Rattle.bz_tree.specs.private.Machine.{is_statement}
 use Rattle.bz_tree.specs.private.BlockSteps.{AreStanding}
@@ -65,8 +65,8 @@ chunk_or_none : (first : ℕ) (bytes : List ℕ) (ts : List Placed) → AreStand
 chunk_or_none first bytes ts stand = at_word (map_or false is_block_word (first_token ts)) refl
   where
     at_word : (b : Bool) → map_or false is_block_word (first_token ts) ≡ b → Either (IsChunkOf first bytes ts)
-    at_word true begins = subst (λ b. Either (IsOneOf b first bytes ts)) (sym begins) (block_or_none first bytes ts stand begins)
-    at_word false begins = subst (λ b. Either (IsOneOf b first bytes ts)) (sym begins) (plain_or_none ts)
+    at_word true begins = subst (λ b. Either (IsBlockOrPlain b first bytes ts)) (sym begins) (block_or_none first bytes ts stand begins)
+    at_word false begins = subst (λ b. Either (IsBlockOrPlain b first bytes ts)) (sym begins) (plain_or_none ts)
 
 lex_some : (f : LexFault) → Lex f ≡ OutOfMemory no_memory → ⊥
 lex_some f e = cc

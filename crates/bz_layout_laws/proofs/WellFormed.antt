@@ -7,7 +7,7 @@ use Rattle.bz_token.specs.Places.{Placed}
 use Rattle.bz_token.specs.Reading.{AreTokensOf}
 use Rattle.bz_tree.specs.declared.tree.Class.{Class}
 use Rattle.bz_tree.specs.declared.tree.Class.TheVariants.{Load, Assign, Rule, Other, Block}
-use Rattle.bz_tree.specs.Chunk.{IsPlain, IsOneOf, IsStatementIn}
+use Rattle.bz_tree.specs.Chunk.{IsPlain, IsBlockOrPlain, IsStatementIn}
 use Rattle.bz_tree.specs.Statement.{first_seen, first_token, is_kept, class_of, is_assign}
 use Rattle.bz_tree.specs.Kinds.{is_load_word}
 use Rattle.bz_tree.specs.Tree.{Item, leaf, group, Statement, items_of, is_rule}
@@ -53,7 +53,7 @@ plain_formed first depth bytes tokens s are some plain = record {
 pub chunk_formed : (first depth : ℕ) (bytes : List ℕ) (s : Statement) → IsStatementIn first depth bytes s → (s.class ≡ Block → ⊥) → IsWellFormed depth s
 chunk_formed first depth bytes s is none = by (map_or false is_block_word (first_token is.tokens)) is.reads.chunk
   where
-    by : (b : Bool) → IsOneOf b first bytes is.tokens s → IsWellFormed depth s
+    by : (b : Bool) → IsBlockOrPlain b first bytes is.tokens s → IsWellFormed depth s
     by true block = absurd (none (ap (λ (u : Statement). u.class) block.is))
     by false plain = plain_formed first depth bytes is.tokens s is.are is.reads.some plain
 

@@ -2,8 +2,8 @@
 -- this project's own rule).
 -- Begin with `Slot`, `Meaning` and `Pass`.
 -- It is stated for any statements S, targets T, commands C and log entries M, the arguments in braces. A log
--- has one list of entries for lines and messages, since their order is one. Everywhere m is the meaning, c a
--- command, p a pass, x a slot with its mark and e an execution; cs, ps, xs and es are lists of these.
+-- has one list of entries for lines and messages; what is told of a run has them apart. Everywhere m is the meaning,
+-- c a command, p a pass, x a slot with its mark and e an execution; cs, ps, xs and es are lists of these.
 use Rattle.std.specs.Prelude.{◌≢◌, Any, Bool, not, ◌&&◌, if◌then◌else◌, List, [], ◌∷◌, ◌++◌, map, filter, fold, Option}
 use Rattle.std.specs.List.{flat_map, list_any}
 

@@ -12,8 +12,8 @@ use Rattle.bz_rule.specs.Move.{arrivals, elements_of, put_in}
 abbrev pub add_note : List ℕ → List Segment → Option Note
 add_note attr args = no_list_note attr (first_named attr args)
 
--- `add <attr> <v>..`: as new elements, the values arrive that no element of a list part equals, and no value
--- before them.
+-- `add <attr> <v>..`: the values become new elements, but for those that an element of a list part, or a value
+-- before them, equals.
 abbrev pub add : Package → List ℕ → List (List ℕ) → List Segment → List Segment
 add home attr values args = if is_some (add_note attr args) then args
     else put_in attr (arrivals home (elements_of (first_named attr args)) (map string values)) args

@@ -193,7 +193,8 @@ args_after (Comment (Value attr value) text) home args = comment_value home attr
 args_after _ home args = args
 
 -- Why a command on arguments does nothing to them: the notes of the commands. Each command asks for its own, and
--- leaves the arguments where there is one (`comment_attribute` where no argument has the name).
+-- leaves the arguments where there is one (`comment_attribute` need not ask: where no argument has the name it edits
+-- none).
 abbrev pub args_note : Command → Package → List Segment → Option Note
 args_note (Add attr values) home args = add_note attr args
 args_note (Rename old new) home args = rename_note old new args

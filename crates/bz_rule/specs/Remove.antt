@@ -15,8 +15,8 @@ use Rattle.bz_attribute.specs.Effects.{edit_first, unchosen, filtered}
 abbrev pub goes_with_all : Segment → Bool
 goes_with_all a = is_attribute a && not (is_named (codes "name") a)
 
--- `remove *`, `remove * <v>..`, `remove <attr>` (each argument of the name goes), `remove <attr> <v>..` (in
--- the first one)
+-- `remove *`, `remove <attr>` (each argument of the name goes), `remove * <v>..`, `remove <attr> <v>..` (in the first
+-- argument of the name)
 abbrev pub remove : Package → Attributes → List (List ℕ) → List Segment → List Segment
 remove home Every [] args = filter (λ a. not (goes_with_all a)) args
 remove home (Named attr) [] args = filter (λ a. not (is_named attr a)) args

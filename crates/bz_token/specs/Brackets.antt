@@ -21,7 +21,7 @@ is_closing_bracket b = b == 41 || b == 93 || b == 125
 abbrev pub is_pair : ℕ → ℕ → Bool
 is_pair a b = (a == 40 && b == 41) || (a == 91 && b == 93) || (a == 123 && b == 125)
 
--- some bracket is open
+-- some bracket is open (`is_filled`, by what it means here)
 abbrev pub is_inside : List ℕ → Bool
 is_inside opened = is_filled opened
 

@@ -27,7 +27,7 @@ block_word Statement text = opener text
 block_word _ text = None
 
 -- whether lines that begin with such a word go on with a text: it goes on with the block, and no string broke
--- off before
+-- off before (that is a fault, which ends the chunk)
 abbrev pub takes_on : Option Opener → List Line → List ℕ → Bool
 takes_on None block text = false
 takes_on (Some word) block text = not (list_any (λ l. l.broken) block) && goes_on word text

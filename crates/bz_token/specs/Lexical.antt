@@ -97,8 +97,9 @@ abbrev pub is_string_kind : Kind → Bool
 is_string_kind String = true
 is_string_kind _ = false
 
--- At a string's opening quotes (`o`) only strings count, at three quotes only long ones (`p` opens the text);
--- at a digit only all letters, digits and underscores that stand there; anywhere else every text counts.
+-- At a string's opening quotes (`o`) only strings count, at three quotes only long ones (`p` opens the text); at a
+-- digit only a number, and only if it takes all letters, digits and underscores that stand there; anywhere else
+-- every text counts.
 abbrev pub counts : List ℕ → Kind → List ℕ → Bool
 counts place kind text = elim (opening place) [
   | Some o ↦ is_string_kind kind && (map_or false (λ p. p.quotes.long) (opening text) || not o.quotes.long)

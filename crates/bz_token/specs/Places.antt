@@ -20,7 +20,7 @@ abbrev pub column_at : List ℕ → ℕ
 column_at before = column_from 1 before
 
 -- A token with its kind (an enum of `src/token.rt`) and its place, and whether no token begins before it on its
--- line (`fresh`, which a leaf of a tree has too, by `Places` of bz_tree; nothing that `run` says depends on it).
+-- line (`fresh`: for laws on trees; nothing that `run` says depends on it).
 pub record Placed : Type 0 where
   pub kind : Kind
   pub text : List ℕ

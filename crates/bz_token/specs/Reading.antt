@@ -50,7 +50,8 @@ abbrev pub bytes_of : List Piece → List ℕ
 bytes_of [] = []
 bytes_of (p ∷ ps) = p.gap ++ (p.text ++ bytes_of ps)
 
--- a piece's token after the bytes before it, where earlier tokens begin on these lines
+-- a piece's token after the bytes before it, its gap among them; `lines`, on which earlier tokens begin, are for
+-- `fresh` alone
 abbrev pub token_of : ℕ → List ℕ → List ℕ → Piece → Placed
 token_of first before lines p = record {
   kind = p.kind;

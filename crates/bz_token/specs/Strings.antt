@@ -75,7 +75,7 @@ abbrev pub but_last : List (List ℕ) → List (List ℕ)
 but_last (u ∷ v ∷ us) = u ∷ but_last (v ∷ us)
 but_last _ = []
 
--- nothing ends the string before its text ends: it is closed there, broken off or open
+-- nothing ends the string before its text ends: at that end it is closed, broken off or still open
 abbrev pub is_one_string : Opening → List ℕ → Bool
 is_one_string o text =
     let before = but_last (inside o text) in not (has_closing o.quotes before || has_break o.quotes before)

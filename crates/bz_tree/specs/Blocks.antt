@@ -37,9 +37,10 @@ ends_open tokens = map_or false is_colon (last_of tokens)
 abbrev pub logical_lines : List Placed → List (List Placed)
 logical_lines tokens = map bare_tokens (slice_split (λ t. is_line (mark_of t)) tokens)
 
--- The columns of the lines that are still open are a stack, the innermost first. After the first token of a
--- line: after a line that ends with `:` it stands deeper than the innermost line, else on a column of the
--- stack, which is popped down to it. None: it is indented wrongly.
+-- The columns of the levels of indentation around a line are a stack, the innermost first. This is the stack after
+-- a line whose first token stands in `column`: where the line before ends with `:` (true), the column is deeper than
+-- the innermost, and is put on the stack; else it is one of the stack, which is popped down to it. None: the line is
+-- indented wrongly.
 abbrev pub indented : Bool → ℕ → List ℕ → Option (List ℕ)
 indented true column [] = Some (column ∷ [])
 indented true column (c ∷ columns) = if nat_lt c column then Some (column ∷ c ∷ columns) else None
@@ -69,7 +70,7 @@ depth_after (Open shape) depth = depth + 1
 depth_after (Close shape) depth = depth - 1
 depth_after _ depth = depth
 
--- `:` stands among these tokens outside brackets, so many of which are open
+-- `:` stands among these tokens outside brackets; `depth` brackets are open before them
 abbrev pub has_colon : ℕ → List Placed → Bool
 has_colon depth [] = false
 has_colon depth (t ∷ ts) = (depth == 0 && is_colon t) || has_colon (depth_after (mark_of t) depth) ts
@@ -78,7 +79,8 @@ has_colon depth (t ∷ ts) = (depth == 0 && is_colon t) || has_colon (depth_afte
 abbrev pub has_header_colon : List Placed → Bool
 has_header_colon tokens = map_or false (has_colon 0) (find is_filled (logical_lines tokens))
 
--- A block of the grammar: `:` stands outside brackets in its header, and its last line does not end with `:`.
+-- What is asked of a block's tokens in place of a grammar: `:` stands outside brackets in its header, and its last
+-- line does not end with `:`.
 abbrev pub is_block : List Placed → Bool
 is_block tokens = has_header_colon tokens && not (ends_open (bare_tokens tokens))
 

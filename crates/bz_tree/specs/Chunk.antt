@@ -24,28 +24,28 @@ indent_at None tokens = None
 indent_at (Some t) tokens =
     if t.col == 1 then (if is_block_word t then block_indent tokens else None) else Some t.line
 
--- The line at which the chunk is indented wrongly: its first token stands in column 1, and the lines of a block
--- on columns that fit. Comment lines may be indented.
+-- The line at which the chunk is indented wrongly; none, if its first token stands in column 1 and the lines of a
+-- block on columns that fit. Comment lines may be indented.
 abbrev pub indent_fault : List Placed → Option ℕ
 indent_fault tokens = indent_at (first_token tokens) tokens
 
 -- The statement of these tokens, of which the first begins a block (true) or not.
-abbrev pub IsOneOf : Bool → ℕ → List ℕ → List Placed → Statement → Type 0
-IsOneOf true first bytes tokens s = IsBlockOf first bytes tokens s
-IsOneOf false first bytes tokens s = IsPlain tokens s
+abbrev pub IsBlockOrPlain : Bool → ℕ → List ℕ → List Placed → Statement → Type 0
+IsBlockOrPlain true first bytes tokens s = IsBlockOf first bytes tokens s
+IsBlockOrPlain false first bytes tokens s = IsPlain tokens s
 
 -- The statement of a chunk of these bytes with these tokens.
 abbrev pub IsChunkOf : ℕ → List ℕ → List Placed → Statement → Type 0
 IsChunkOf first bytes tokens s =
-    IsOneOf (map_or false is_block_word (first_token tokens)) first bytes tokens s
+    IsBlockOrPlain (map_or false is_block_word (first_token tokens)) first bytes tokens s
 
--- These tokens are read as the statement: it begins on its column, and is no blank chunk.
+-- These tokens are read as the statement: none is indented wrongly, and the chunk is not blank.
 pub record IsReadAs (first : ℕ) (bytes : List ℕ) (tokens : List Placed) (s : Statement) : Type 0 where
   pub upright : indent_fault tokens ≡ None
   pub some : IsSome (first_seen tokens)
   pub chunk : IsChunkOf first bytes tokens s
 
--- no statement has these tokens, and it is not that it is indented; the line is that of the first token
+-- no statement has these tokens, though none is indented wrongly; the line is that of the first token
 pub record IsNoStatement (first : ℕ) (bytes : List ℕ) (tokens : List Placed) (line : ℕ) : Type 0 where
   pub upright : indent_fault tokens ≡ None
   pub none : (s : Statement) → IsChunkOf first bytes tokens s → ⊥

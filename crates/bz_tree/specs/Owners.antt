@@ -1,4 +1,4 @@
--- The segments of one bracket, and whose each of its comments is (this project's own rule). Only what stands
+-- The segments of one bracket, and what each of its comments belongs to (this project's own rule). Only what stands
 -- in the bracket itself counts: an inner bracket is one node.
 -- Begin with `inside`.
 use Rattle.std.specs.Prelude.{ℕ, List, [], ◌∷◌, ◌++◌, map, flat_map, Bool, true, false, not, if◌then◌else◌, ◌==◌, ◌||◌, length, drop, Option, None, Some}
@@ -87,7 +87,7 @@ cell_segment cell =
       suffix = first_of (beside None last);
     }
 
--- no segment is empty: a node stands before each comma, after the comma before
+-- no segment is empty: each cell that has a comma has a node
 abbrev pub no_empty_cell : List Inner → Bool
 no_empty_cell inners = list_all (λ cell. list_any is_node cell || not (list_any is_comma cell)) (cells inners)
 

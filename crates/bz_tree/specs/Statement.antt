@@ -23,8 +23,8 @@ as_rule_call (leaf kind text) = leaf kind text
 as_rule_call (group kind segs one_comma end) = group RuleCall segs one_comma end
 
 -- What stands in a statement outside brackets (`inners`) is one cell, in which a comma is a node. Its segment has
--- the nodes and comments of the statement: the end comments of the cell stand before it too. The call of a rule
--- is made a `RuleCall`.
+-- the nodes and comments of the statement: the end comments of the cell stand before it too (comment lines alone
+-- have no node, so all their comments are end comments). The call of a rule is made a `RuleCall`.
 abbrev pub segment_of : List Inner → Segment
 segment_of inners =
     let cell = with_comma_nodes true inners in

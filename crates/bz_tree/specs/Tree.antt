@@ -54,7 +54,7 @@ abbrev pub is_operator_item : List ℕ → Item → Bool
 is_operator_item operator (leaf Operator text) = bytes_eq text operator
 is_operator_item operator _ = false
 
--- whether a node is one of these operators
+-- whether a node is one of these operators (of one alone `is_operator_item` says the same)
 abbrev pub is_operator_among : List (List ℕ) → Item → Bool
 is_operator_among operators (leaf Operator text) = is_one_of operators text
 is_operator_among operators _ = false

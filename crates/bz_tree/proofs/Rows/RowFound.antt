@@ -13,7 +13,7 @@ use Rattle.bz_tree.specs.Tree.{Item, Segment, Statement, items_of}
 use Rattle.bz_tree.specs.Kinds.{mark_of}
 use Rattle.bz_tree.specs.Statement.{class_of, first_token, first_seen, start_of, end_of, statement_with}
 use Rattle.bz_tree.specs.Blocks.{is_block_word}
-use Rattle.bz_tree.specs.Chunk.{indent_at, IsOneOf, IsStatementIn}
+use Rattle.bz_tree.specs.Chunk.{indent_at, IsBlockOrPlain, IsStatementIn}
 use Rattle.bz_tree.specs.Rows.{RowPart, above, beside_part, IsRowOf}
 use Rattle.bz_tree.specs.private.Machine.{accepts, may_end, is_statement}
 use Rattle.bz_tree.specs.private.Steps.{new_level, run}
@@ -128,7 +128,7 @@ upright_row ts row same lines seen stands first depth bytes are =
     let p = upright (first_token ts) ts stands in
     let plain = plain_is ts found.segment s found.answer_is found.grammar refl in (
       s,
-      record { tokens = ts; are = are; reads = record { upright = p.0; some = seen; chunk = subst (λ b. IsOneOf b first bytes ts s) (sym p.1) plain } },
+      record { tokens = ts; are = are; reads = record { upright = p.0; some = seen; chunk = subst (λ b. IsBlockOrPlain b first bytes ts s) (sym p.1) plain } },
       record { parts = found.parts_are; class = found.class_is; start = lines.0; end = lines.1 },
     )
 
