@@ -8,7 +8,7 @@ use Rattle.bz_tree.specs.declared.tree.GroupKind.{GroupKind}
 use Rattle.bz_tree.specs.declared.tree.GroupKind.TheVariants.{Load, Index}
 use Rattle.bz_layout.specs.declared.spacing.Gap.{Gap}
 use Rattle.bz_layout.specs.declared.spacing.Gap.TheVariants.{Closed, Space}
-use Rattle.bz_tree.specs.Tree.{Item, leaf, group, is_operator_among, is_call}
+use Rattle.bz_tree.specs.Tree.{Item, leaf, group, is_operator_item, is_operator_among, is_call}
 use Rattle.bz_tree.specs.Grammar.{prefix_signs, stars}
 use Rattle.bz_token.specs.Common.{is_empty, map_or}
 
@@ -35,14 +35,13 @@ abbrev pub is_index : GroupKind → Bool
 is_index Index = true
 is_index _ = false
 
--- no space stands after `.`, a prefix operator, the star that begins an argument and the colon of an index (each
--- as a list of operators, like `no_space_before`)
+-- no space stands after `.`, a prefix operator, the star that begins an argument and the colon of an index
 abbrev pub no_space_after : Option GroupKind → List Item → Item → Bool
 no_space_after within before x =
-    is_operator_among (codes "." ∷ []) x
+    is_operator_item (codes ".") x
     || is_operator_among prefix_signs x && begins_operand before
     || is_operator_among stars x && is_empty before && map_or false is_call within
-    || is_operator_among (codes ":" ∷ []) x && map_or false is_index within
+    || is_operator_item (codes ":") x && map_or false is_index within
 
 -- the gap before x, where `first` stands before the first node
 abbrev pub gap_before : Option GroupKind → Gap → List Item → Item → Gap
