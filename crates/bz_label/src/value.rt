@@ -8,7 +8,7 @@ ghost use Rattle.bz_label.specs.private.ValueSteps.{is_escaped, is_value};
 ghost use Rattle.bz_label.specs.private.ByteSteps.{inner_of};
 
 use crate::literal::{Literal, is_at_end, next_in, open, plain_value};
-use bz_memory::{NoMemory, push_char, push_str};
+use bz_memory::{NoMemory, push_char, push_str, with_length_of};
 use bz_token::{Kind, Token};
 use std::alloc::Global;
 
@@ -20,11 +20,14 @@ pub fn value_is(token: &Token<'_>, value: &str) -> bool
     matches!(token.kind, Kind::String) && has_value(token.text.as_bytes(), value.as_bytes())
 }
 
+// Most literals are no longer, and are made without making room for more.
+const LONG_LITERAL: &str = "\"//the/package/of/many/rules:the_name_of_a_rule\"";
+
 /// The string literal, in double quotes, that has this value.
 pub fn quote(alloc: Global, value: &str) -> Result<String, NoMemory>
     ensures { IfOk result (λ text. string_bytes text ≡ spec.quoted value.now) }
 {
-    let mut text = String::new(alloc);
+    let mut text = with_length_of(alloc, LONG_LITERAL)?;
     push_char(&mut text, '"')?;
     push_value(&mut text, value)?;
     push_char(&mut text, '"').and(Ok(text))
