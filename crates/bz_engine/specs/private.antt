@@ -10,3 +10,4 @@ pub mod Finds
 pub mod Found
 pub mod ArgumentEdits
 pub mod Renamed
+pub mod Marked

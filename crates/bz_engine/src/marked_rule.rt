@@ -45,7 +45,8 @@ pub(crate) fn edit_marked(
     progress: &mut Progress,
     text: &mut Vec<u8>,
 ) -> Result<bool, NoMemory>
-    requires only { IsForOne script.max_depth script.home.now script.passes.now marked.only marked.found.now }
+    requires only { IsForOne script.home.now script.passes.now marked.only
+        (IsFoundOn script.max_depth progress.old.line marked.found.now) }
     requires fits { Fits progress.old.kept script.passes.now }
     requires spans { HasItsSpans script.max_depth script.passes.now marked.found.now }
     ensures { IfOk result (EditsFound (run_of script.entry) marked.entry.found.now progress.old progress.new
@@ -72,7 +73,8 @@ fn put_comment(
     progress: &mut Progress,
     text: &mut Vec<u8>,
 ) -> Result<bool, NoMemory>
-    requires only { IsForOne script.max_depth script.home.now script.passes.now marked.only marked.found.now }
+    requires only { IsForOne script.home.now script.passes.now marked.only
+        (IsFoundOn script.max_depth progress.old.line marked.found.now) }
     requires fits { Fits progress.old.kept script.passes.now }
     requires comment { marked.only.command.now ≡ Comment (Attribute comment.attr.now) comment.text.now }
     ensures { IfOk result (EditsFound (run_of script.entry) marked.entry.found.now progress.old progress.new
@@ -105,7 +107,8 @@ fn put_renamed(
     progress: &mut Progress,
     text: &mut Vec<u8>,
 ) -> Result<bool, NoMemory>
-    requires only { IsForOne script.max_depth script.home.now script.passes.now marked.only marked.found.now }
+    requires only { IsForOne script.home.now script.passes.now marked.only
+        (IsFoundOn script.max_depth progress.old.line marked.found.now) }
     requires fits { Fits progress.old.kept script.passes.now }
     requires spans { HasItsSpans script.max_depth script.passes.now marked.found.now }
     requires renamed { marked.only.command.now ≡ Rename renamed.old.now renamed.new.now }
@@ -177,7 +180,8 @@ fn edit_long_argument(
     progress: &mut Progress,
     text: &mut Vec<u8>,
 ) -> Result<bool, NoMemory>
-    requires only { IsForOne script.max_depth script.home.now script.passes.now marked.only marked.found.now }
+    requires only { IsForOne script.home.now script.passes.now marked.only
+        (IsFoundOn script.max_depth progress.old.line marked.found.now) }
     requires fits { Fits progress.old.kept script.passes.now }
     ensures { IfOk result (EditsFound (run_of script.entry) marked.entry.found.now progress.old progress.new
         text.old.items text.new.items) }
@@ -218,7 +222,8 @@ fn edit_argument(
     progress: &mut Progress,
     text: &mut Vec<u8>,
 ) -> Result<bool, NoMemory>
-    requires only { IsForOne script.max_depth script.home.now script.passes.now marked.only marked.found.now }
+    requires only { IsForOne script.home.now script.passes.now marked.only
+        (IsFoundOn script.max_depth progress.old.line marked.found.now) }
     requires fits { Fits progress.old.kept script.passes.now }
     ensures { IfOk result (EditsFound (run_of script.entry) marked.entry.found.now progress.old progress.new
         text.old.items text.new.items) }

@@ -31,7 +31,8 @@ later_only {M = M} m x q p ps at other only = record {
   by [] fits = absurd fits
   by (k ∷ ks) fits = rw (unmarked_slot m q x other, unmarked_kept m q x k fits.0 other) (ap (λ l. k ∷ l) (only.kept ks fits.1))
 
-only_marks : {S T C M : Type 0} (m : Meaning S T C M) (x : Slot S) (ps : List (Pass T C)) (at : ℕ) (p : Pass T C) → at < length ps → p ≡ get_or ps at p
+-- the pass at a position, where none before it marks the slot, and none after it what it leaves
+pub only_marks : {S T C M : Type 0} (m : Meaning S T C M) (x : Slot S) (ps : List (Pass T C)) (at : ℕ) (p : Pass T C) → at < length ps → p ≡ get_or ps at p
     → ((i : ℕ) (d : Pass T C) → i < at → m.marks (get_or ps i d).target x ≡ false)
     → ((i : ℕ) (d : Pass T C) → at < i → i < length ps → m.marks (get_or ps i d).target (slot_after_pass m p x) ≡ false) → IsOnlyAt m ps x at p
 only_marks m x [] at p within is before after = absurd (omega (arith, within))

@@ -1,6 +1,6 @@
 //! The passes of a script, with an index of what their targets ask for.
 
-ghost use Rattle.std.specs.Prelude.{◌≡◌, ◌<◌, ℕ, List, Option, get_or, length, option_map, IfOk, IsTrue, is_none, None, true};
+ghost use Rattle.std.specs.Prelude.{◌≡◌, ◌<◌, ℕ, List, Option, length, option_map, IfOk, is_none, true};
 ghost use Rattle.std.specs.List.Sorted.{IsNonDecreasingBy};
 ghost use Rattle.bz_passes.specs.Asked.{IsFirstFrom, may_mark};
 ghost use Rattle.bz_passes.specs.private.Indexes as spec;
@@ -66,27 +66,28 @@ impl<T: Keyed, C> Passes<T, C> {
     pub(crate) fn first(&self, key: Key<'_>) -> Option<usize>
         ensures { IsFirstFrom (λ pass. may_mark key.entry (T.asked pass.target)) self.now 0 result }
     {
-        // Most scripts begin with a target that asks for no name, or have no other.
-        if self.begins_for_all() {
-            return Some(0);
-        }
         self.first_from(key, 0)
     }
 
-    /// The first pass asks for no name.
+    /// The position, `from` or later, of the first pass that may mark what has this key.
     #[inline(always)]
-    fn begins_for_all(&self) -> bool
-        ensures { IsTrue result → (0 < length self.now)
-            × ((d : _) → T.asked (get_or self.now 0 d).target ≡ None) }
+    pub fn first_from(&self, key: Key<'_>, from: usize) -> Option<usize>
+        ensures { IsFirstFrom (λ pass. may_mark key.entry (T.asked pass.target)) self.now from result }
     {
-        match self.as_slice() {
-            [first, ..] => first.target.asked().is_none(),
-            [] => false,
+        let passes = self.as_slice();
+        if from >= passes.len() {
+            return None;
         }
+        let pass = &passes[from];
+        // Most scripts begin with a target that asks for no name, or have no other.
+        if pass.target.asked().is_none() {
+            return Some(from);
+        }
+        self.later_from(key, from)
     }
 
-    /// The position, `from` or later, of the first pass that may mark what has this key.
-    pub fn first_from(&self, key: Key<'_>, from: usize) -> Option<usize>
+    /// The position, `from` or later, of the first pass that may mark what has this key: often not the pass at `from`.
+    fn later_from(&self, key: Key<'_>, from: usize) -> Option<usize>
         ensures { IsFirstFrom (λ pass. may_mark key.entry (T.asked pass.target)) self.now from result }
     {
         if self.passes.len() <= FEW {
