@@ -47,13 +47,17 @@ first_goes attr (a ∷ args) few = by (is_named attr a) few
     by true few = none_goes attr args (omega (arith, few))
     by false few = ap (λ (xs : List Segment). a ∷ xs) (first_goes attr args few)
 
+no_length : (lines : List ℕ) → is_empty lines ≡ true → length lines ≡ 0
+no_length [] none = refl
+no_length (b ∷ lines) none = absurd (false≢true none)
+
 -- the place of the one argument of a name
-pub gone_from : (depth : ℕ) (attr : List ℕ) (s : Statement) (place : Between) → HasPlace depth attr s place → place.may_go ≡ true → is_empty place.lines ≡ false → HasOnce attr s
+pub gone_from : (depth : ℕ) (attr : List ℕ) (s : Statement) (place : Between) → HasPlace depth attr s place → place.may_go ≡ true → (length place.lines ≡ 0 → ⊥) → HasOnce attr s
     → IsGone attr s place.before place.after
 gone_from depth attr s place has goes some once = by (first_named attr (rule_args (rule_of s.nodes))) refl
   where
     by : (o : Option Segment) → first_named attr (rule_args (rule_of s.nodes)) ≡ o → IsGone attr s place.before place.after
-    by None is = absurd (false≢true (sym some ∙ has.none ∙ ap (λ o. is_empty (option_to_list o)) is))
+    by None is = absurd (some (no_length place.lines (has.none ∙ ap (λ o. is_empty (option_to_list o)) is)))
     by (Some a) is =
         let named : is_named attr a ≡ true = is_first_named attr (rule_args (rule_of s.nodes)) a is in
         let nothing : without_first attr (first_args attr s) ≡ [] = ap (λ o. without_first attr (option_to_list o)) is ∙ ap (λ (b : Bool). if b then [] else a ∷ []) named in

@@ -4,6 +4,7 @@
 ghost use Rattle.std.specs.Prelude.{◌≡◌, ◌++◌, if◌then◌else◌, [], ◌∷◌, ℕ, Some, false, true, bytes_eq, codes, IfOk, OnOk, IfSome, IsTrue};
 ghost use Rattle.bz_tree.specs.Tree.{Statement};
 ghost use Rattle.bz_layout.specs.Layout.{layout_text};
+ghost use Rattle.bz_canonical.specs.Canonical.{HasOnce};
 ghost use Rattle.bz_passes.specs.Exchange.{Fits};
 ghost use Rattle.bz_label.specs.declared.arguments.Attributes.TheVariants.{Named};
 ghost use Rattle.bz_label.specs.declared.arguments.Commented.TheVariants.{Attribute};
@@ -18,7 +19,7 @@ ghost use Rattle.bz_engine.specs.private.NextChunks.{EditsFound};
 ghost use Rattle.bz_engine.specs.private.Renamed.{TakesName};
 
 use crate::answer::{has_once_by_spans, is_without_by_spans};
-use crate::argument::{EditedArgument, execute_in_place, execute_on_lines, is_long};
+use crate::argument::{EditedArgument, execute_in_place, execute_on_lines, is_long, may_stand};
 use crate::canonical::Found;
 use crate::edit::ScriptRun;
 use crate::progress::Progress;
@@ -178,7 +179,7 @@ fn name_place<'a>(found: &Found<'a>, attr: &str) -> Option<NamePlace<'a>>
     })
 }
 
-/// The command removes an attribute, of which the rule has one argument.
+/// The command removes an attribute. It is not the name, since a pass that comes after may mark the rule by that.
 fn put_gone(
     script: ScriptRun<'_>,
     marked: MarkedRule<'_>,
@@ -195,7 +196,10 @@ fn put_gone(
         text.old.items text.new.items) }
 {
     let MarkedRule { only, found } = marked;
-    let Some(place) = gone_place(script, found, attr) else {
+    if attr == "name" || !has_once_by_spans(script, found, attr) {
+        return Ok(false);
+    }
+    let Some(place) = gone_place(found, attr) else {
         return Ok(false);
     };
     progress.keep_line(only.at, None)?;
@@ -209,26 +213,22 @@ fn put_gone(
     Ok(true)
 }
 
-/// The place of the one argument of this name, where the rule stays on lines without it, and keeps its own name: a pass
-/// that comes after may mark it by that.
-fn gone_place<'a>(
-    script: ScriptRun<'_>,
-    found: &Found<'a>,
-    attr: &str,
-) -> Option<ArgumentPlace<'a>>
-    requires { HasItsSpans script.max_depth script.passes.now found.now }
-    ensures gone { IfSome result (λ place. (line : ℕ) (s : Statement)
-        → IsFoundOn script.entry.max_depth line found.now s → IsGone attr.now s place.before.now place.after.now) }
-    ensures name { IfSome result (λ _. bytes_eq attr.now (codes "name") ≡ false) }
+/// The place of the argument of this name, where the rule stays on lines without it. None also if another one was looked
+/// for.
+fn gone_place<'a>(found: &Found<'a>, attr: &str) -> Option<ArgumentPlace<'a>>
+    ensures { IfSome result (λ place. (depth : ℕ) (s : Statement) → IsFound depth found.now s → HasOnce attr.now s
+        → IsGone attr.now s place.before.now place.after.now) }
 {
-    if attr == "name" || attr != found.attr {
+    if attr != found.attr {
         return None;
     }
-    let place = found.place?;
-    if place.may_go && !place.lines.is_empty() && has_once_by_spans(script, found, attr) {
-        return Some(place);
+    let Some(place) = found.place else {
+        return None;
+    };
+    if place.lines.is_empty() || !may_stand(place, false) {
+        return None;
     }
-    None
+    Some(place)
 }
 
 /// The one command edits an argument of many lines: what it makes of these is written where it is to stand.

@@ -30,7 +30,7 @@ returns c =
     let fits = subst (λ (p : Progress). Fits p.kept passes) (sym is) (log_fits _ old.kept passes only _ [] one c.requires.fits) in
     is_done_on (run_of c.args.script) c.args.marked.found.now old end c.args.text.now.items c.put.new.text.items fits (ap (λ (p : Progress). p.line) is) (λ s on.
     let t = with_args (args_after command home) s in
-    let changed = remove_changes command attr home s place.before.now place.after.now [] c.requires.gone refl (marked_rule only.target.now s (one.marked s on)) (c.in-Some.ensures.gone old.line s on) in
+    let changed = remove_changes command attr home s place.before.now place.after.now [] c.requires.gone refl (marked_rule only.target.now s (one.marked s on)) (c.in-Some.ensures depth s on.is (c.has_once_by_spans.ensures c.if-not-has_once_by_spans.false old.line s on)) in
     grown_laid (run_of c.args.script) only c.args.marked.found.now.chunk.class s t old c.keep_line.new.self end c.args.text.now.items c.put.new.text.items
-    (one.alone s t on changed.0.after_is (λ later. gone_name_kept command home attr s c.requires.gone c.in-Some.ensures.name)) c.requires.fits (one.marked s on) changed.0 on.is.class_is
+    (one.alone s t on changed.0.after_is (λ later. gone_name_kept command home attr s c.requires.gone (sym c.eq.ensures ∙ c.if-eq.false))) c.requires.fits (one.marked s on) changed.0 on.is.class_is
     c.in_ok-keep_line.ensures put.last (put.text t on.is.class_is changed.1))
