@@ -179,7 +179,7 @@ fn name_place<'a>(found: &Found<'a>, attr: &str) -> Option<NamePlace<'a>>
     })
 }
 
-/// The command removes an attribute. It is not the name, since a pass that comes after may mark the rule by that.
+/// The command removes an attribute. False for the name: a pass that comes after may mark the rule by that.
 fn put_gone(
     script: ScriptRun<'_>,
     marked: MarkedRule<'_>,
