@@ -84,29 +84,19 @@ found_read line depth found read has spanned =
       read = read.read;
     }
 
--- the chunk with the place of an argument
-pub spans_found : (depth : ℕ) (passes : Script) (chunk : CanonicalChunk) (found : Found) (text : List ℕ) (spans : List ArgumentSpan) → found.chunk ≡ chunk → found.spans.now ≡ spans
-    → IfSome found.place (λ place. IsTrue chunk.noted × ((first depth : ℕ) (s : Statement) → HasSpans first depth (asked_names passes) s chunk.chunk.now chunk.written.now spans → HasPlace depth found.attr.now s (between place)))
-    → IsCanonical depth chunk.class (option_map (λ name. name.now) chunk.name) (option_map (λ kind. kind.now) chunk.kind) chunk.chunk.now chunk.written.now text
-    → (IsTrue chunk.noted → AreSpansOf depth (asked_names passes) chunk.chunk.now chunk.written.now spans) → HasItsSpans depth passes found
-spans_found depth passes chunk found text spans chunk_is spans_are placed c noted = record {
+-- the chunk with the spans of its arguments
+pub spans_found : (depth : ℕ) (passes : Script) (found : Found) (text : List ℕ) → found.place ≡ None
+    → IsCanonical depth found.chunk.class (option_map (λ name. name.now) found.chunk.name) (option_map (λ kind. kind.now) found.chunk.kind) found.chunk.chunk.now found.chunk.written.now text
+    → (IsTrue found.chunk.noted → AreSpansOf depth (asked_names passes) found.chunk.chunk.now found.chunk.written.now found.spans.now) → HasItsSpans depth passes found
+spans_found depth passes found text none c noted = record {
   read = λ first.
-      let read = subst (λ (k : CanonicalChunk). IsReadBack first depth k.class (option_map (λ name. name.now) k.name) (option_map (λ kind. kind.now) k.kind) k.chunk.now k.written.now) (sym chunk_is) (c.read first) in (
+      let read = c.read first in (
         read.statement,
-        found_read first depth found read (by found.place placed read.statement (subst (λ (k : CanonicalChunk). IsStatementIn first depth k.chunk.now read.statement) chunk_is read.read))
-            (λ known. (first, asked_names passes, all known first read.statement read.read)),
+        found_read first depth found read (subst (λ (o : Option ArgumentPlace). IfSome (option_map between o) (HasPlace depth found.attr.now read.statement)) (sym none) tt)
+            (λ known. (first, asked_names passes, noted known first read.statement read.read)),
       );
-  spans = all;
+  spans = noted;
 }
-  where
-    all : IsTrue found.chunk.noted → AreSpansOf depth (asked_names passes) found.chunk.chunk.now found.chunk.written.now found.spans.now
-    all = subst (λ (k : CanonicalChunk). IsTrue k.noted → AreSpansOf depth (asked_names passes) k.chunk.now k.written.now found.spans.now) (sym chunk_is)
-        (subst (λ (ss : List ArgumentSpan). IsTrue chunk.noted → AreSpansOf depth (asked_names passes) chunk.chunk.now chunk.written.now ss) (sym spans_are) noted)
-
-    by : (place : Option ArgumentPlace) → IfSome place (λ place. IsTrue chunk.noted × ((first depth : ℕ) (s : Statement) → HasSpans first depth (asked_names passes) s chunk.chunk.now chunk.written.now spans → HasPlace depth found.attr.now s (between place)))
-        → {first : ℕ} (s : Statement) → IsStatementIn first depth chunk.chunk.now s → IfSome (option_map between place) (HasPlace depth found.attr.now s)
-    by None placed s read = tt
-    by (Some place) placed {first = first} s read = placed.1 first depth s (noted placed.0 first s read)
 
 all_taken : (chunk rest text : List ℕ) → text ≡ chunk ++ rest → length chunk ≡ length text → chunk ≡ text
 all_taken chunk [] text is size = sym (is ∙ append-nil chunk)

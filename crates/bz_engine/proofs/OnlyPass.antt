@@ -1,18 +1,18 @@
 -- A statement that one pass of the script alone marks, whose one command it is.
-use Rattle.std.proofs.Common.{◌≡◌, ℕ, ◌+◌, ◌<◌, length, get_or, Bool, true, false, ◌||◌, List, [], ◌∷◌, ◌++◌, refl, sym, ◌∙◌, ap, subst, append-nil}
+use Rattle.std.proofs.Common.{◌≡◌, ◌≢◌, ℕ, ◌+◌, ◌<◌, length, get_or, Bool, true, false, ◌||◌, List, [], ◌∷◌, ◌++◌, refl, sym, ◌∙◌, ap, subst, append-nil, arith}
 use Rattle.std.proofs.lemmas.Bool.{false≢true}
-use Rattle.std.specs.Prelude.{Option, None, Some, if◌then◌else◌, bytes_eq, codes, map, option_map, option_to_list}
+use Rattle.std.specs.Prelude.{OnOk, Result, Ok, Err, Option, None, Some, if◌then◌else◌, bytes_eq, codes, map, option_map, option_to_list}
 use Rattle.bz_token.specs.Common.{map_or}
 use Rattle.bz_tree.specs.declared.tree.Class.{Class}
 use Rattle.bz_tree.specs.declared.tree.Class.TheVariants.{Rule as RuleClass}
 use Rattle.bz_tree.specs.Statement.{class_of}
 use Rattle.bz_tree.specs.Tree.{Segment, Statement}
-use Rattle.bz_label.specs.Labels.{Package, Target}
-use Rattle.bz_passes.specs.Passes.{Slot, marked}
+use Rattle.bz_label.specs.Labels.{Package, Target, Name, Pkg, All, Kind, Line as OnLine}
+use Rattle.bz_passes.specs.Passes.{Pass, Slot, marked}
 use Rattle.bz_attribute.specs.declared.done.Done.{Done}
 use Rattle.bz_attribute.specs.Effects.{with_args}
 use Rattle.bz_attribute.specs.Marks.{marks, marks_rule}
-use Rattle.bz_attribute.specs.Rules.{Rule, name_in, rule_of}
+use Rattle.bz_attribute.specs.Rules.{Rule, is_text, name_in, rule_of}
 use Rattle.bz_attribute.specs.Texts.{shown_text}
 use Rattle.bz_attribute.proofs.EditedRules.{rule_after, rule_with}
 use Rattle.bz_attribute.proofs.Headed.{other_class}
@@ -28,7 +28,7 @@ use Rattle.bz_passes.specs.declared.index.Key.{Key}
 use Rattle.bz_passes.specs.declared.entry.Entry.{Entry}
 use Rattle.bz_passes.specs.declared.entry.Entry.TheVariants.{Line}
 use Rattle.bz_passes.proofs.ExchangeLaw.{left_more}
-use Rattle.bz_passes.proofs.OnePass.{fits_and, fits_at}
+use Rattle.bz_passes.proofs.OnePass.{fits_and, fits_at, only_marks}
 use Rattle.bz_passes.proofs.PassedBy.{unmarked_passed}
 use Rattle.bz_engine.specs.Language.{meaning}
 use Rattle.bz_engine.specs.Failing.{changes, fails, fails_on, note_told}
@@ -38,7 +38,7 @@ use Rattle.bz_engine.specs.declared.canonical.Found.{Found}
 use Rattle.bz_engine.specs.declared.failure.Message.{Message}
 use Rattle.bz_engine.specs.declared.rule_passes.OnePass.{OnePass}
 use Rattle.bz_engine.specs.private.Edits.{IsLaidOut}
-use Rattle.bz_engine.specs.private.Found.{HasLogAt, IsForOne, IsFound, IsFoundOn, IsMarked, KeepsName, Makes, Tells, log_of, one_log_of, one_pass, one_told, told_line}
+use Rattle.bz_engine.specs.private.Found.{AreMarkedAlike, HasLogAt, IsForOne, IsFound, IsFoundOn, Makes, Tells, log_of, one_log_of, one_pass, one_told, told_line}
 use Rattle.bz_engine.specs.private.NextChunks.{EditsFound}
 use Rattle.bz_engine.specs.private.Rows.{HasKey}
 
@@ -66,23 +66,28 @@ no_rule_passed home passes s class other =
     unmarked_passed (meaning home) (changes home) (fails_on home) passes (Some s) (λ i d within. ap (map_or false (marks_rule _ s.start)) none)
 
 -- a place for the log of a pass that one statement is for, before and after
-pub log_at : (depth : ℕ) (home : Package) (kept : List (Kept Entry)) (passes : Script) (only : OnePass) (found : Found) → IsForOne depth home passes only found → Fits kept passes → HasLogAt kept only.at
-log_at depth home kept passes only found one fits = fits_at kept passes only.at (one_pass only) one.within one.is fits
+pub log_at : (home : Package) (kept : List (Kept Entry)) (passes : Script) (only : OnePass) (Is : Statement → Type 0) → IsForOne home passes only Is → Fits kept passes → HasLogAt kept only.at
+log_at home kept passes only Is one fits = fits_at kept passes only.at (one_pass only) one.within one.is fits
 
-pub log_fits : (depth : ℕ) (home : Package) (kept : List (Kept Entry)) (passes : Script) (only : OnePass) (found : Found) (log : List Entry) → IsForOne depth home passes only found → Fits kept passes
+pub log_fits : (home : Package) (kept : List (Kept Entry)) (passes : Script) (only : OnePass) (Is : Statement → Type 0) (log : List Entry) → IsForOne home passes only Is → Fits kept passes
     → Fits (and_at only.at (one_log_of log) kept) passes
-log_fits depth home kept passes only found log one fits = fits_and kept passes only.at (one_pass only) (one_log_of log) one.is refl fits
+log_fits home kept passes only Is log one fits = fits_and kept passes only.at (one_pass only) (one_log_of log) one.is refl fits
 
--- a rule keeps its name where its arguments do
-pub name_left : (f : List Segment → List Segment) (s : Statement) → ((args : List Segment) → name_in (f args) ≡ name_in args) → KeepsName s (with_args f s)
-name_left f s same = ap rule_name (rule_after f s) ∙ by (rule_of s.nodes)
-  where
-    by : (rule : Option Rule) → rule_name (option_map (rule_with f) rule) ≡ rule_name rule
-    by None = refl
-    by (Some r) = same r.args
+-- a rule whose name stays is marked alike
+same_marked : (f : List Segment → List Segment) (start : ℕ) (target : Target) (rule : Option Rule) → ((args : List Segment) → name_in (f args) ≡ name_in args)
+    → map_or false (marks_rule target start) (option_map (rule_with f) rule) ≡ map_or false (marks_rule target start) rule
+same_marked f start target None same = refl
+same_marked f start (Name name) (Some r) same = ap (is_text name) (same r.args)
+same_marked f start Pkg (Some r) same = refl
+same_marked f start All (Some r) same = refl
+same_marked f start (Kind kind) (Some r) same = refl
+same_marked f start (OnLine line) (Some r) same = refl
+
+pub name_left : (f : List Segment → List Segment) (s : Statement) → ((args : List Segment) → name_in (f args) ≡ name_in args) → AreMarkedAlike s (with_args f s)
+name_left f s same target = ap (map_or false (marks_rule target s.start)) (rule_after f s) ∙ same_marked f s.start target (rule_of s.nodes) same
 
 -- a command that looks at one argument leaves the name, unless that is it
-pub name_kept : (command : Command) (home : Package) (attr : List ℕ) (s : Statement) → one_attribute command ≡ Some attr → bytes_eq attr (codes "name") ≡ false → KeepsName s (with_args (args_after command home) s)
+pub name_kept : (command : Command) (home : Package) (attr : List ℕ) (s : Statement) → one_attribute command ≡ Some attr → bytes_eq attr (codes "name") ≡ false → AreMarkedAlike s (with_args (args_after command home) s)
 name_kept command home attr s one other = name_left (args_after command home) s (λ args. name_stays command home attr args one other)
 
 -- what the pass makes of a statement that it marks, and what is kept of it
@@ -90,16 +95,36 @@ slot_of_one : (home : Package) (only : OnePass) (s : Statement) (t : Slot Statem
     → slot_after_pass (meaning home) (one_pass only) (Some s) ≡ t
 slot_of_one home only s t met is = ap (λ b. if b then after only.command.now home (Some s) else Some s) met ∙ is
 
--- the one pass that may mark what has the key of the statement, and marks it
-pub for_one : (depth : ℕ) (home : Package) (passes : Script) (only : OnePass) (found : Found) (key : Key) → IsOnlyFor (meaning home) asked_by passes key only.at → only.at < length passes
-    → one_pass only ≡ get_or passes only.at (one_pass only) → (only.at + 1 < length passes → only.last ≡ false)
-    → ((s : Statement) → HasName (option_map (λ name. name.now) found.chunk.name) s → HasKey s key) → IsMarked depth only.target.now found → IsForOne depth home passes only found
-for_one depth home passes only found key law within is last keyed marks_it = record {
+-- the one pass that marks such statements
+pub for_one : (home : Package) (passes : Script) (only : OnePass) (Is : Statement → Type 0) → only.at < length passes → one_pass only ≡ get_or passes only.at (one_pass only) → (only.at + 1 < length passes → only.last ≡ false)
+    → ((s : Statement) → Is s → marks only.target.now s ≡ true)
+    → ((s : Statement) → Is s → (i : ℕ) (d : Pass Target Command) → i < length passes → i ≢ only.at → marks (get_or passes i d).target s ≡ false) → IsForOne home passes only Is
+for_one home passes only Is within is last marks_it others = record {
   within = within;
   is = is;
   marked = marks_it;
-  alone = λ s t found_is made keeps. law (Some s) (one_pass only) is (keyed s found_is.named)
-      (λ later. subst (λ (slot : Slot Statement). IsKeyOf (meaning home) asked_by slot key) (sym (slot_of_one home only s (Some t) (marks_it s found_is) made)) (keyed t (keeps (last later) ∙ found_is.named)));
+  alone = λ s t found made alike.
+      only_marks (meaning home) (Some s) passes only.at (one_pass only) within is
+      (λ i d before. others s found i d (omega (arith, before, within)) (λ same. absurd (omega (arith, before, same))))
+      (λ i d after inside. ap (λ (slot : Slot Statement). (meaning home).marks (get_or passes i d).target slot) (slot_of_one home only s (Some t) (marks_it s found) made)
+      ∙ alike (last (omega (arith, after, inside))) (get_or passes i d).target ∙ others s found i d inside (λ same. absurd (omega (arith, after, same))));
+}
+
+-- the same of other statements
+pub for_those : (home : Package) (passes : Script) (only : OnePass) (Is Of : Statement → Type 0) → ((s : Statement) → Of s → Is s) → IsForOne home passes only Is → IsForOne home passes only Of
+for_those home passes only Is Of all one = record { within = one.within; is = one.is; marked = λ s of. one.marked s (all s of); alone = λ s t of. one.alone s t (all s of) }
+
+-- the one pass that may mark what has the key of the statement, and marks it
+pub for_key : (home : Package) (passes : Script) (only : OnePass) (Is : Statement → Type 0) (key : Key) → IsOnlyFor (meaning home) asked_by passes key only.at → only.at < length passes
+    → one_pass only ≡ get_or passes only.at (one_pass only) → (only.at + 1 < length passes → only.last ≡ false)
+    → ((s : Statement) → Is s → HasKey s key) → ((s : Statement) → Is s → marks only.target.now s ≡ true) → IsForOne home passes only Is
+for_key home passes only Is key law within is last keyed marks_it = record {
+  within = within;
+  is = is;
+  marked = marks_it;
+  alone = λ s t found made alike. law (Some s) (one_pass only) is (keyed s found)
+      (λ later. subst (λ (slot : Slot Statement). IsKeyOf (meaning home) asked_by slot key) (sym (slot_of_one home only s (Some t) (marks_it s found) made))
+      (λ target met. keyed s found target (sym (alike (last later) target) ∙ met)));
 }
 
 abbrev kept_by : Bool → List Entry → Kept Entry
@@ -228,3 +253,8 @@ pub is_done : (run : Run) (found : Found) (old new : Progress) (before after : L
     → Fits new.kept run.passes → new.line ≡ old.line → ((s : Statement) → IsFound run.max_depth found s → IsLaidOut run s old new before after)
     → EditsFound run found old new before after true
 is_done run found old new before after fits line laid = is_done_on run found old new before after fits line (λ s is. laid s is.is)
+
+-- what two clauses of a call say, where its `Result` is returned as it is
+pub on_ok_both : {T E P Q R : Type 0} (r : Result T E) → (P → Q → R) → OnOk r P → OnOk r Q → OnOk r R
+on_ok_both (Ok x) both p q = both p q
+on_ok_both (Err e) both p q = tt

@@ -27,7 +27,7 @@ use Rattle.bz_rule.specs.declared.command.Action.TheVariants.{Rename}
 use Rattle.bz_rule.proofs.HeadKept.{renamed_name_stays}
 use Rattle.bz_canonical.specs.Canonical.{Between, HasPlace, argument_lines, first_args, rule_args}
 use Rattle.bz_canonical.specs.Commented.{TakesComment}
-use Rattle.bz_engine.specs.private.Found.{IsWithout, KeepsName, Makes, told_line}
+use Rattle.bz_engine.specs.private.Found.{AreMarkedAlike, IsWithout, Makes, told_line}
 use Rattle.bz_engine.specs.private.Renamed.{TakesName, renamed}
 use Rattle.bz_engine.proofs.CanonicalChunks.{same_bytes}
 use Rattle.bz_engine.proofs.OnlyPass.{name_left}
@@ -170,7 +170,7 @@ rename_changes command old new home s before after name is name_is rule without 
 
 -- the name of the rule stays, where it is another argument
 pub renamed_name_kept : (command : Command) (home : Package) (old new : List ℕ) (s : Statement) → command ≡ Rename old new → bytes_eq old (codes "name") ≡ false → bytes_eq new (codes "name") ≡ false
-    → KeepsName s (with_args (args_after command home) s)
+    → AreMarkedAlike s (with_args (args_after command home) s)
 renamed_name_kept command home old new s is h g =
-    subst (λ (c : Command). KeepsName s (with_args (args_after c home) s)) (sym is)
+    subst (λ (c : Command). AreMarkedAlike s (with_args (args_after c home) s)) (sym is)
     (name_left (args_after (Rename old new) home) s (λ args. renamed_name_stays home old new args h g))

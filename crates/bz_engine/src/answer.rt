@@ -1,18 +1,16 @@
 //! Rules that the one command of a script leaves as they are, by what is known of their text.
 
-ghost use Rattle.std.specs.Prelude.{◌≡◌, ℕ, IfOk, IfSome, IsTrue, Some, false, true};
+ghost use Rattle.std.specs.Prelude.{◌≡◌, ℕ, IfOk, IfSome, IsTrue, None, Some, false};
 ghost use Rattle.bz_tree.specs.Tree.{Statement};
-ghost use Rattle.bz_attribute.specs.Marks.{marks};
-ghost use Rattle.bz_attribute.specs.Rules.{Rule, rule_of};
-ghost use Rattle.bz_canonical.specs.Canonical.{HasName};
-ghost use Rattle.bz_engine.specs.private.Found.{HasItsSpans, IsFound, IsFoundOn, IsMarked, IsOfKind, IsWithout, LeavesRule, Makes, told_line};
+ghost use Rattle.bz_canonical.specs.Canonical.{HasName, HasOnce};
+ghost use Rattle.bz_engine.specs.private.Found.{HasItsSpans, IsFound, IsFoundOn, IsPlaceIn, IsWithout, LeavesRule, Makes, told_line};
 
 use crate::canonical::Found;
 use crate::edit::ScriptRun;
 use crate::names::position_of;
 use bz_attribute::Env;
-use bz_canonical::{SpannedRule, argument_place, kind_of};
-use bz_label::{Marked, Target};
+use bz_canonical::{ArgumentPlace, SpannedRule, argument_place, has_once};
+use bz_label::Package;
 use bz_memory::NoMemory;
 use bz_rule::commands::print::print_name;
 use bz_rule::forms::{looked_at, printed_by, renamed_by};
@@ -46,9 +44,9 @@ pub(crate) fn asked_attribute(command: &Command) -> &str {
     }
 }
 
-/// What the command prints of the rule, where it leaves it as it is. The bytes in the buffer are lost. None: it may
-/// change it, or the rule is to be seen.
-pub(crate) fn unchanged_by_text<'t, 'f: 't>(
+/// What the command prints of the rule, where the name tells it. The bytes in the buffer are lost. None: it does not
+/// print, or the rule is to be seen.
+pub(crate) fn printed_by_text<'t, 'f: 't>(
     env: Env<'_>,
     command: &Command,
     found: &Found<'f>,
@@ -56,12 +54,6 @@ pub(crate) fn unchanged_by_text<'t, 'f: 't>(
 ) -> Result<Option<Unchanged<'t>>, NoMemory>
     ensures { IfOk result (λ known. IfSome known (LeavesRule command.now env.entry.home.now found.now)) }
 {
-    if let Some(attr) = looked_at(command) {
-        if !is_without(found, attr) {
-            return Ok(None);
-        }
-        return Ok(Some(Unchanged { line: None }));
-    }
     let Some(name) = found.chunk.name else {
         return Ok(None);
     };
@@ -69,6 +61,17 @@ pub(crate) fn unchanged_by_text<'t, 'f: 't>(
     match line {
         None => Ok(None),
         Some(line) => Ok(Some(Unchanged { line: Some(line) })),
+    }
+}
+
+/// The command leaves the rule as it is, and tells nothing: the rule has no argument that it looks at.
+pub(crate) fn is_left_by_text(home: &Package, command: &Command, found: &Found<'_>) -> bool
+    ensures { IsTrue result → (unchanged : Unchanged) → unchanged.line ≡ None
+        → LeavesRule command.now home.now found.now unchanged }
+{
+    match looked_at(command) {
+        Some(attr) => is_without(found, attr),
+        None => false,
     }
 }
 
@@ -104,66 +107,42 @@ pub(crate) fn is_without_by_spans(script: ScriptRun<'_>, found: &Found<'_>, attr
     ensures { IsTrue result → (line : ℕ) (s : Statement) → IsFoundOn script.entry.max_depth line found.now s
         → IsWithout attr.now s }
 {
+    match place_of(script, found, attr) {
+        Some(place) => place.lines.is_empty(),
+        None => false,
+    }
+}
+
+/// At most one argument of the rule has this name, as the spans of all show.
+pub(crate) fn has_once_by_spans(script: ScriptRun<'_>, found: &Found<'_>, attr: &str) -> bool
+    requires { HasItsSpans script.max_depth script.passes.now found.now }
+    ensures { IsTrue result → (line : ℕ) (s : Statement) → IsFoundOn script.entry.max_depth line found.now s
+        → HasOnce attr.now s }
+{
     if !found.chunk.noted {
         return false;
     }
-    let Some(at) = position_of(script.passes.names(), attr) else {
-        return false;
-    };
+    match position_of(script.passes.names(), attr) {
+        Some(at) => has_once(found.spans, at),
+        None => false,
+    }
+}
+
+/// Where the argument of this name stands, or would stand, if it was noted where all stand.
+pub(crate) fn place_of<'a>(
+    script: ScriptRun<'_>,
+    found: &Found<'a>,
+    attr: &str,
+) -> Option<ArgumentPlace<'a>>
+    ensures { IfSome result (IsPlaceIn script.entry.passes.now found.now attr.now) }
+{
+    if attr.is_empty() || !found.chunk.noted {
+        return None;
+    }
+    let at = position_of(script.passes.names(), attr)?;
     let rule = SpannedRule {
         written: found.chunk.written,
         spans: found.spans,
     };
-    let Some(place) = argument_place(found.chunk.chunk, rule, at) else {
-        return false;
-    };
-    place.lines.is_empty()
-}
-
-/// The target marks the statement of the chunk, whatever else is in it.
-pub(crate) fn marks_found(target: &Target, found: &Found<'_>) -> bool
-    ensures { IsTrue result → (depth : ℕ) → IsMarked depth target.now found.now }
-{
-    if let Marked::Kind(kind) = target.marked() {
-        return is_of_kind(found, kind);
-    }
-    if let Some(name) = found.chunk.name {
-        return marks_name(target, name);
-    }
-    // What has a kind is a rule.
-    match found.chunk.kind {
-        Some(_) => marks_rules(target),
-        None => false,
-    }
-}
-
-/// The chunk is a rule of this kind, as the spans of its arguments show.
-fn is_of_kind(found: &Found<'_>, kind: &str) -> bool
-    ensures { IsTrue result → (depth : ℕ) (s : Statement) → IsFound depth found.now s → IsOfKind kind.now s }
-{
-    if !found.chunk.noted {
-        return false;
-    }
-    match kind_of(found.chunk.chunk, found.spans) {
-        Some(its_kind) => its_kind == kind,
-        None => false,
-    }
-}
-
-/// The target marks a rule of this name, whatever else the rule is.
-fn marks_name(target: &Target, name: &str) -> bool
-    ensures { IsTrue result → (s : Statement) → HasName (Some name.now) s → marks target.now s ≡ true }
-{
-    match target.marked() {
-        Marked::Name(asked) => asked == name,
-        Marked::All => true,
-        _ => false,
-    }
-}
-
-/// The target marks each rule.
-fn marks_rules(target: &Target) -> bool
-    ensures { IsTrue result → (s : Statement) (r : Rule) → rule_of s.nodes ≡ Some r → marks target.now s ≡ true }
-{
-    matches!(target.marked(), Marked::All)
+    argument_place(found.chunk.chunk, rule, at)
 }

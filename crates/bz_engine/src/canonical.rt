@@ -5,40 +5,34 @@
 
 ghost use Rattle.std.specs.Prelude.{◌≡◌, ◌+◌, ◌<◌, ◌≤◌, ◌^◌, ◌==◌, ℕ, Some, count_by, length, option_map, IfOk, OnOk, IfSome, IfNone, IsTrue};
 ghost use Rattle.bz_tree.specs.Tree.{Statement};
-ghost use Rattle.bz_canonical.specs.Canonical.{HasName, HasPlace, IsCanonical, between};
-ghost use Rattle.bz_canonical.specs.Spans.{HasSpans};
+ghost use Rattle.bz_canonical.specs.Canonical.{HasName, IsCanonical};
 ghost use Rattle.bz_passes.specs.Exchange.{Fits, IsPassedBy};
 ghost use Rattle.bz_devices.specs.Ahead.{IsFewAfter};
 ghost use Rattle.bz_engine.specs.Language.{meaning};
 ghost use Rattle.bz_engine.specs.Failing.{changes, fails_on};
 ghost use Rattle.bz_engine.specs.private.Edits.{DoesNothing, EditsWhole, run_of};
-ghost use Rattle.bz_engine.specs.private.Found.{HasItsSpans, IsFound, IsForOne};
+ghost use Rattle.bz_engine.specs.private.Found.{HasItsSpans, IsFound};
 ghost use Rattle.bz_engine.specs.private.Named.{IsNamePassedBy};
-ghost use Rattle.bz_engine.specs.private.NextChunks.{EditsFound, IsFirstEdited, IsKnownEdited, ScriptsFound};
+ghost use Rattle.bz_engine.specs.private.NextChunks.{IsFirstEdited, IsKnownEdited, ScriptsFound};
 ghost use Rattle.bz_engine.specs.private.Rows.{HasKey};
 ghost use Rattle.bz_engine.specs.private.Sealed.{asked_names};
 
-use crate::answer::{marks_found, unchanged_by_text};
+use crate::answered::copy_answered;
 use crate::chunk::newlines;
 use crate::edit::{Edited, ScriptRun, Scripted, edited_of};
-use crate::failure::message_by_text;
-use crate::marked_rule::{MarkedRule, edit_marked};
+use crate::marked_rule::MarkedRule;
+use crate::marking::{Marking, find_marking};
 use crate::next_chunk::NextChunk;
 use crate::progress::Progress;
-use crate::rule_passes::OnePass;
 use crate::rules::Rules;
 use crate::sealed::edit_sealed;
 use crate::written::put_canonical;
-use bz_attribute::Env;
-use bz_canonical::{
-    ArgumentPlace, ArgumentSpan, AsksOfRules, CanonicalChunk, SpannedRule, argument_place,
-    read_canonical,
-};
+use bz_canonical::{ArgumentPlace, ArgumentSpan, AsksOfRules, CanonicalChunk, read_canonical};
 use bz_devices::ahead::Ahead;
 use bz_label::Text;
 use bz_memory::NoMemory;
 use bz_passes::index::Key;
-use bz_passes::script::{only_pass, passes_by};
+use bz_passes::script::passes_by;
 use bz_tree::Class;
 
 /// Runs the script on the first chunk of the text ahead, where what would be written of it is known without its
@@ -162,13 +156,13 @@ fn copy_known(
     }))
 }
 
-/// Runs the script on the statement of a chunk that was found, by the first of these: no pass marks it, `copy_marked`
-/// knows what is made of it, or the script does not see some of its arguments. The chunk has so many lines. None, with
-/// nothing done: it is to be read.
+/// Runs the script on the statement of a chunk that was found, by the first of these: no pass marks it, one alone does and
+/// `copy_answered` knows what that makes of it, or the script does not see some of its arguments. The chunk has so many
+/// lines. None, with nothing done: it is to be read.
 #[inline(always)]
-fn script_known(
-    script: ScriptRun<'_>,
-    found: &Found<'_>,
+fn script_known<'a>(
+    script: ScriptRun<'a>,
+    found: &'a Found<'a>,
     lines: u64,
     progress: &mut Progress,
     text: &mut Vec<u8>,
@@ -186,8 +180,17 @@ fn script_known(
         put_canonical(script, found.chunk, progress, text)?;
         return Ok(Some(Scripted::Done));
     }
-    if copy_marked(script, found, progress, text)? {
-        return Ok(Some(Scripted::Done));
+    match find_marking(script, found, progress.line, lines) {
+        Marking::Unmarked => {
+            put_canonical(script, found.chunk, progress, text)?;
+            return Ok(Some(Scripted::Done));
+        }
+        Marking::Alone(only) => {
+            if copy_answered(script, MarkedRule { only, found }, progress, text)? {
+                return Ok(Some(Scripted::Done));
+            }
+        }
+        Marking::Unknown => {}
     }
     if found.chunk.noted {
         return edit_sealed(script, found, lines, progress, text);
@@ -195,11 +198,11 @@ fn script_known(
     Ok(None)
 }
 
-/// A chunk of which it is known what would be written, and the argument that was looked for in it.
+/// A chunk of which it is known what would be written, and the argument that is looked for in it.
 #[derive(Clone, Copy)]
 pub(crate) struct Found<'a> {
     pub(crate) chunk: CanonicalChunk<'a>,
-    /// The name of the argument.
+    /// The name of the argument. Empty: none is looked for yet.
     pub(crate) attr: &'a str,
     /// Where it stands, or would stand. None: it is not known.
     pub(crate) place: Option<ArgumentPlace<'a>>,
@@ -231,114 +234,12 @@ fn find_canonical<'a, 'b: 'a>(
     if chunk.chunk.len() as u64 > max_statement {
         return Ok(None);
     }
-    Ok(Some(with_place(script, chunk, spans.as_slice())))
-}
-
-/// A chunk whose arguments have these spans, if that was noted, with the place of the one that the script looks for.
-#[inline(always)]
-fn with_place<'a>(
-    script: ScriptRun<'a>,
-    chunk: CanonicalChunk<'a>,
-    spans: &'a [ArgumentSpan],
-) -> Found<'a>
-    ensures chunk { result.chunk ≡ chunk.entry }
-    ensures spans { result.spans.now ≡ spans.now }
-    ensures place { IfSome result.place (λ place. IsTrue chunk.entry.noted × ((first depth : ℕ) (s : Statement)
-        → HasSpans first depth (asked_names script.entry.passes.now) s chunk.entry.chunk.now chunk.entry.written.now
-        spans.now → HasPlace depth result.attr.now s (between place))) }
-{
-    let unplaced = Found {
+    Ok(Some(Found {
         chunk,
         attr: "",
         place: None,
-        spans,
-    };
-    if !chunk.noted {
-        return unplaced;
-    }
-    let Some(asked) = script.passes.asked_attribute() else {
-        return unplaced;
-    };
-    let rule = SpannedRule {
-        written: chunk.written,
-        spans,
-    };
-    Found {
-        attr: asked.name,
-        place: argument_place(chunk.chunk, rule, asked.at),
-        ..unplaced
-    }
-}
-
-/// Runs the script on the statement of such a chunk, where a text may tell what its commands do. False, with nothing
-/// done: the statement is to be seen.
-#[inline(always)]
-fn copy_marked(
-    script: ScriptRun<'_>,
-    found: &Found<'_>,
-    progress: &mut Progress,
-    text: &mut Vec<u8>,
-) -> Result<bool, NoMemory>
-    requires fits { Fits progress.old.kept script.passes.now }
-    requires spans { HasItsSpans script.max_depth script.passes.now found.now }
-    ensures { IfOk result (EditsFound (run_of script.entry) found.now progress.old progress.new
-        text.old.items text.new.items) }
-{
-    if !script.passes.may_be_answered() {
-        return Ok(false);
-    }
-    copy_answered(script, found, progress, text)
-}
-
-/// The same, by the first of these: the one command leaves it as it is, tells a message of it, or edits one argument.
-#[inline(never)]
-fn copy_answered(
-    script: ScriptRun<'_>,
-    found: &Found<'_>,
-    progress: &mut Progress,
-    text: &mut Vec<u8>,
-) -> Result<bool, NoMemory>
-    requires fits { Fits progress.old.kept script.passes.now }
-    requires spans { HasItsSpans script.max_depth script.passes.now found.now }
-    ensures { IfOk result (EditsFound (run_of script.entry) found.now progress.old progress.new
-        text.old.items text.new.items) }
-{
-    let Some(only) = find_one_pass(script, found) else {
-        return Ok(false);
-    };
-    let env = Env {
-        alloc: script.alloc,
-        home: script.home,
-    };
-    let mut buffer = String::new(script.alloc);
-    if let Some(unchanged) = unchanged_by_text(env, only.command, found, &mut buffer)? {
-        progress.keep_line(only.at, unchanged.line)?;
-        put_canonical(script, found.chunk, progress, text)?;
-        return Ok(true);
-    }
-    if let Some(message) = message_by_text(script, only.command, found)? {
-        progress.keep_message(only.at, message)?;
-        put_canonical(script, found.chunk, progress, text)?;
-        return Ok(true);
-    }
-    edit_marked(script, MarkedRule { only, found }, progress, text)
-}
-
-/// The one pass of the script that marks the statement of the chunk, where it has one command.
-fn find_one_pass<'a>(script: ScriptRun<'a>, found: &Found<'_>) -> Option<OnePass<'a>>
-    ensures { IfSome result (λ only. IsForOne script.entry.max_depth script.entry.home.now script.entry.passes.now only
-        found.now) }
-{
-    let rules = Rules {
-        alloc: script.alloc,
-        home: script.home,
-    };
-    let at = only_pass(&rules, script.passes.indexed(), name_key(found.chunk.name))?;
-    let only = script.passes.one_at(at)?;
-    if !marks_found(only.target, found) {
-        return None;
-    }
-    Some(only)
+        spans: spans.as_slice(),
+    }))
 }
 
 /// No pass of the script may mark the statement.
@@ -390,7 +291,7 @@ fn is_name_passed_by(script: ScriptRun<'_>, name: Option<&str>) -> bool
 }
 
 /// The key of a rule of this name, or of what has none.
-fn name_key(name: Option<&str>) -> Key<'_>
+pub(crate) fn name_key(name: Option<&str>) -> Key<'_>
     ensures { (s : Statement) → HasName (option_map (λ name. name.now) name.entry) s → HasKey s result }
 {
     match name {

@@ -31,25 +31,8 @@ pub(crate) struct Message {
     pub(crate) fails: bool,
 }
 
-/// What the command tells of a rule, where that has a message and does not end the run. None: it may do something, or
-/// the rule is to be seen.
-pub(crate) fn message_by_text(
-    script: ScriptRun<'_>,
-    command: &Command,
-    found: &Found<'_>,
-) -> Result<Option<Message>, NoMemory>
-    ensures { IfOk result (λ known. IfSome known
-        (TellsRule script.entry.keep_going command.now script.entry.home.now
-        found.now)) }
-{
-    match found.chunk.kind {
-        Some(_) => missing_by_text(script, command, found),
-        None => failure_by_text(script, command, found),
-    }
-}
-
 /// What is told of a rule without a name whose name is to be printed.
-fn missing_by_text(
+pub(crate) fn missing_by_text(
     script: ScriptRun<'_>,
     command: &Command,
     found: &Found<'_>,
@@ -99,7 +82,7 @@ fn is_name(fields: &[Field]) -> bool
 }
 
 /// What the command tells of a rule on which it fails, where failures do not end the run.
-fn failure_by_text(
+pub(crate) fn failure_by_text(
     script: ScriptRun<'_>,
     command: &Command,
     found: &Found<'_>,

@@ -7,6 +7,7 @@
 #![tactic(auto)]
 
 mod answer;
+mod answered;
 mod argument;
 mod canonical;
 mod chunk;
@@ -15,6 +16,7 @@ mod failure;
 pub mod laws;
 mod looks;
 mod marked_rule;
+mod marking;
 mod message;
 mod names;
 mod next_chunk;

@@ -1,7 +1,7 @@
 //! The passes of a script over rules, with what is asked of them at each statement.
 
-ghost use Rattle.std.specs.Prelude.{◌≡◌, ◌+◌, ◌<◌, false, true, bytes_eq, get_or, length, IfOk, IfSome, Some};
-ghost use Rattle.std.specs.List.{list_all, position};
+ghost use Rattle.std.specs.Prelude.{◌≡◌, ◌+◌, ◌<◌, false, true, get_or, length, IfOk, IfSome};
+ghost use Rattle.std.specs.List.{list_all};
 ghost use Rattle.bz_rule.specs.Commands.{is_command, is_print};
 ghost use Rattle.bz_engine.specs.Outcome as spec;
 ghost use Rattle.bz_engine.specs.Scripts.{AreCommands};
@@ -9,10 +9,10 @@ ghost use Rattle.bz_engine.specs.private.Found.{one_pass};
 ghost use Rattle.bz_engine.specs.private.Named.{all_named};
 ghost use Rattle.bz_engine.specs.private.Sealed.{asked_names};
 
-use crate::answer::{asked_attribute, is_answerable};
-use crate::names::{asked_names, position_of};
-use bz_label::Text;
-use bz_memory::{NoMemory, from_str};
+use crate::answer::is_answerable;
+use crate::names::asked_names;
+use bz_label::{Marked, Text};
+use bz_memory::NoMemory;
 use bz_passes::pass::Pass;
 use bz_passes::passes::{Keyed, Passes};
 use bz_rule::{Command, Target};
@@ -28,21 +28,25 @@ pub(crate) struct RulePasses {
     named: bool,
     /// What the script makes of some statements may be known without them.
     may_be_known: bool,
-    /// The one command of some pass may be answered from a text.
-    answerable: bool,
+    finding: Finding,
     /// The attributes that the commands mention, and `name`. None: they may look at others too.
     names: Vec<Text>,
-    /// The attribute that the one command of the first pass looks at. Empty: there is none.
-    attr: String,
 }
 
-/// The attribute whose argument is looked for in a rule.
+/// By what the one pass is found that marks a rule, where its one command may be answered from a text (`is_answerable` of
+/// `answer.rt`).
 #[derive(Clone, Copy)]
-pub(crate) struct AskedAttribute<'p> {
-    pub(crate) name: &'p str,
-    /// Its position among the names.
-    pub(crate) at: usize,
+pub(crate) enum Finding {
+    /// It is not: no command may be answered, or too many targets ask for a kind or a line.
+    Never,
+    /// By the rule's name: each target asks for one, or for all rules.
+    ByName,
+    /// By its kind and its lines too.
+    ByKind,
 }
+
+// So many targets that ask for no name are compared with a rule at most.
+const FEW: usize = 8;
 
 /// A pass of one command.
 #[derive(Clone, Copy)]
@@ -82,18 +86,16 @@ impl RulePasses {
         let query = is_query(passes.as_slice());
         let named = all_named(passes.as_slice());
         let names = asked_names(alloc, passes.as_slice())?;
-        let answerable = is_some_answerable(passes.as_slice());
         let may_be_known = named || !names.is_empty() || is_one_answerable(passes.as_slice());
-        let attr = from_str(alloc, first_attribute(passes.as_slice()))?;
+        let finding = finding_of(passes.as_slice());
         let passes = Passes::new(alloc, passes)?;
         Ok(RulePasses {
             passes,
             query,
             named,
             may_be_known,
-            answerable,
+            finding,
             names,
-            attr,
         })
     }
 
@@ -151,9 +153,9 @@ impl RulePasses {
         self.may_be_known
     }
 
-    /// Whether the one command of some pass may be answered from a text (`is_answerable` of `answer.rt`).
-    pub(crate) fn may_be_answered(&self) -> bool {
-        self.answerable
+    /// By what the one pass is found that marks a rule.
+    pub(crate) fn finding(&self) -> Finding {
+        self.finding
     }
 
     /// The attributes that the commands mention, and `name`. None: they may look at others too.
@@ -161,20 +163,6 @@ impl RulePasses {
         ensures { result.now ≡ asked_names self.now }
     {
         self.names.as_slice()
-    }
-
-    /// The attribute whose argument is to be looked for in a rule. None: there is none.
-    pub(crate) fn asked_attribute(&self) -> Option<AskedAttribute<'_>>
-        ensures { IfSome result (λ asked. position (λ name. bytes_eq name asked.name.now)
-            (asked_names self.now)
-            ≡ Some asked.at) }
-    {
-        let name = self.attr.as_str();
-        if name.is_empty() {
-            return None;
-        }
-        let at = position_of(self.names.as_slice(), name)?;
-        Some(AskedAttribute { name, at })
     }
 }
 
@@ -198,15 +186,41 @@ fn is_some_answerable(passes: &[Pass<Target, Command>]) -> bool {
     false
 }
 
-/// The attribute that the first pass looks at: mostly the others look at the same.
-fn first_attribute(passes: &[Pass<Target, Command>]) -> &str {
-    let [pass, ..] = passes else {
-        return "";
-    };
-    match one_command(pass) {
-        None => "",
-        Some(command) => asked_attribute(command),
+fn finding_of(passes: &[Pass<Target, Command>]) -> Finding {
+    if !is_some_answerable(passes) {
+        return Finding::Never;
     }
+    let count = count_nameless(passes);
+    if count.by_kind == 0 {
+        Finding::ByName
+    } else if count.all <= FEW {
+        Finding::ByKind
+    } else {
+        Finding::Never
+    }
+}
+
+/// How many targets ask for no name.
+#[derive(Clone, Copy)]
+struct Nameless {
+    all: usize,
+    /// Those that mark some rules alone, by their kind or line.
+    by_kind: usize,
+}
+
+fn count_nameless(passes: &[Pass<Target, Command>]) -> Nameless {
+    let mut count = Nameless { all: 0, by_kind: 0 };
+    for pass in passes {
+        match pass.target.marked() {
+            Marked::Name(_) => {}
+            Marked::All => count.all += 1,
+            _ => {
+                count.all += 1;
+                count.by_kind += 1;
+            }
+        }
+    }
+    count
 }
 
 /// Law: each command of a script is one that can be read. The body looks at each, since of that the prover knows it; it

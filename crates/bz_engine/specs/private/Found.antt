@@ -14,7 +14,8 @@ use Rattle.bz_engine.specs.Failing.{fails, note_told}
 use Rattle.bz_label.specs.Labels.{Package, Target}
 use Rattle.bz_attribute.specs.Rules.{Rule, first_named, kind_text, rule_of}
 use Rattle.bz_attribute.specs.Marks.{marks}
-use Rattle.bz_canonical.specs.Canonical.{HasName, HasPlace, IsNameless, between, rule_args, rule_name}
+use Rattle.bz_canonical.specs.Canonical.{HasName, HasPlace, IsNameless, between, rule_args}
+use Rattle.bz_canonical.specs.declared.place.ArgumentPlace.{ArgumentPlace}
 use Rattle.bz_canonical.specs.Spans.{AreSpansOf, HasSpans, IsSpannedIn, NamedRule}
 use Rattle.bz_canonical.specs.declared.spans.ArgumentSpan.{ArgumentSpan}
 use Rattle.bz_token.specs.Places.{line_at}
@@ -85,9 +86,9 @@ pub record HasItsSpans (depth : ℕ) (passes : Script) (found : Found) : Type 0 
   pub read : (first : ℕ) → (s : Statement) × IsFoundOn depth first found s
   pub spans : IsTrue found.chunk.noted → AreSpansOf depth (asked_names passes) found.chunk.chunk.now found.chunk.written.now found.spans.now
 
--- a rule has the name that another has
-abbrev pub KeepsName : Statement → Statement → Type 0
-KeepsName s t = HasName (rule_name (rule_of s.nodes)) t
+-- each target marks both statements, or neither
+abbrev pub AreMarkedAlike : Statement → Statement → Type 0
+AreMarkedAlike s t = (target : Target) → marks target t ≡ marks target s
 
 -- a rule of this kind
 pub record IsOfKind (kind : List ℕ) (s : Statement) : Type 0 where
@@ -95,16 +96,27 @@ pub record IsOfKind (kind : List ℕ) (s : Statement) : Type 0 where
   pub rule_is : rule_of s.nodes ≡ Some rule
   pub kind_is : kind_text rule.kind ≡ kind
 
--- the target marks the statement of the chunk
-abbrev pub IsMarked : ℕ → Target → Found → Type 0
-IsMarked depth target found = (s : Statement) → IsFound depth found s → marks target s ≡ true
+-- the place of an argument of the chunk
+abbrev pub IsPlaceIn : Script → Found → List ℕ → ArgumentPlace → Type 0
+IsPlaceIn passes found attr place = IsTrue found.chunk.noted × ((first depth : ℕ) (s : Statement)
+    → HasSpans first depth (asked_names passes) s found.chunk.chunk.now found.chunk.written.now found.spans.now → HasPlace depth attr s (between place))
 
--- The pass marks the statement of the chunk, and what it makes of it is what the script makes, where a name is kept for later passes.
-pub record IsForOne (depth : ℕ) (home : Package) (passes : Script) (only : OnePass) (found : Found) : Type 0 where
+-- the chunk, whatever argument is looked for in it
+abbrev pub unplaced : Found → Found
+unplaced found = record found { place = None }
+
+-- The chunk with the place of an argument, as the spans of all tell it.
+pub record IsPlaced (passes : Script) (found placed : Found) : Type 0 where
+  pub chunk_is : placed.chunk ≡ found.chunk
+  pub spans_are : placed.spans.now ≡ found.spans.now
+  pub place_is : IfSome placed.place (IsPlaceIn passes found placed.attr.now)
+
+-- The pass marks such statements, and what it makes of one is what the script makes, where later passes mark that as they mark the statement.
+pub record IsForOne (home : Package) (passes : Script) (only : OnePass) (Is : Statement → Type 0) : Type 0 where
   pub within : only.at < length passes
   pub is : one_pass only ≡ get_or passes only.at (one_pass only)
-  pub marked : IsMarked depth only.target.now found
-  pub alone : (s t : Statement) → IsFound depth found s → after only.command.now home (Some s) ≡ Some t → (only.last ≡ false → KeepsName s t)
+  pub marked : (s : Statement) → Is s → marks only.target.now s ≡ true
+  pub alone : (s t : Statement) → Is s → after only.command.now home (Some s) ≡ Some t → (only.last ≡ false → AreMarkedAlike s t)
       → IsOnlyAt (meaning home) passes (Some s) only.at (one_pass only)
 
 -- no argument of this name stands in a rule

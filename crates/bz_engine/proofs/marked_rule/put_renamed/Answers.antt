@@ -5,13 +5,13 @@ use Rattle.bz_rule.specs.Commands.{args_after}
 use Rattle.bz_passes.specs.Exchange.{Fits}
 use Rattle.bz_engine.specs.Progress.{Progress}
 use Rattle.bz_engine.specs.private.Edits.{run_of}
-use Rattle.bz_engine.specs.private.Found.{IsForOne}
+use Rattle.bz_engine.specs.private.Found.{IsForOne, IsFoundOn}
 use Rattle.bz_engine.proofs.OnlyPass.{grown_laid, is_done_on, log_at, log_fits, marked_rule}
 use Rattle.bz_engine.proofs.Renamed.{rename_changes, renamed_name_kept}
 use Rattle.bz_engine.proofs.marked_rule.put_renamed.Goals as goal
 
 pub keep_line-requires : goal.keep_line-requires
-keep_line-requires c = log_at _ _ c.args.progress.now.kept c.args.script.passes.now c.args.marked.only c.args.marked.found.now c.requires.only c.requires.fits
+keep_line-requires c = log_at _ c.args.progress.now.kept c.args.script.passes.now c.args.marked.only _ c.requires.only c.requires.fits
 
 pub returns : goal.returns
 returns c =
@@ -21,7 +21,7 @@ returns c =
     let home = c.args.script.home.now in
     let passes = c.args.script.passes.now in
     let only = c.args.marked.only in
-    let one : IsForOne depth home passes only c.args.marked.found.now = c.requires.only in
+    let one : IsForOne home passes only (IsFoundOn depth old.line c.args.marked.found.now) = c.requires.only in
     let command = only.command.now in
     let renamed = c.args.renamed in
     let at = c.in-Some.at in
@@ -29,12 +29,12 @@ returns c =
     let yes = c.if-not-may_be_renamed.false in
     let put = c.in_ok-put.ensures in
     let is = put.last ∙ ap (λ (p : Progress). record p { last = Some c.args.marked.found.now.chunk.class; changed = true }) c.in_ok-keep_line.ensures in
-    let fits = subst (λ (p : Progress). Fits p.kept passes) (sym is) (log_fits _ _ old.kept passes only c.args.marked.found.now [] one c.requires.fits) in
+    let fits = subst (λ (p : Progress). Fits p.kept passes) (sym is) (log_fits _ old.kept passes only _ [] one c.requires.fits) in
     is_done_on (run_of c.args.script) c.args.marked.found.now old end c.args.text.now.items c.put.new.text.items fits (ap (λ (p : Progress). p.line) is) (λ s on.
     let found = on.is in
     let t = with_args (args_after command home) s in
-    let changed = rename_changes command renamed.old.now renamed.new.now home s at.before.now at.after.now c.as_bytes.result.now c.requires.renamed c.as_bytes.ensures.value (marked_rule only.target.now s (one.marked s found))
+    let changed = rename_changes command renamed.old.now renamed.new.now home s at.before.now at.after.now c.as_bytes.result.now c.requires.renamed c.as_bytes.ensures.value (marked_rule only.target.now s (one.marked s on))
     (may.without yes old.line s on) (c.in-Some.ensures depth s found) in
     grown_laid (run_of c.args.script) only c.args.marked.found.now.chunk.class s t old c.keep_line.new.self end c.args.text.now.items c.put.new.text.items
-    (one.alone s t found changed.0.after_is (λ later. renamed_name_kept command home renamed.old.now renamed.new.now s c.requires.renamed (may.old yes) (may.new yes))) c.requires.fits (one.marked s found) changed.0 found.class_is
+    (one.alone s t on changed.0.after_is (λ later. renamed_name_kept command home renamed.old.now renamed.new.now s c.requires.renamed (may.old yes) (may.new yes))) c.requires.fits (one.marked s on) changed.0 found.class_is
     c.in_ok-keep_line.ensures put.last (put.text t found.class_is changed.1))

@@ -1,7 +1,7 @@
 use Rattle.std.proofs.Common.{ℕ, List, Bor, subst}
 use Rattle.std.specs.Prelude.{Option, IfSome, option_map}
 use Rattle.bz_canonical.specs.Canonical.{HasName, IsNameless}
-use Rattle.bz_engine.proofs.answer.marks_found.Goals as goal
+use Rattle.bz_engine.proofs.marking.marks_found.Goals as goal
 
 pub returns-in-Some : goal.returns-in-Some
 returns-in-Some c = λ marked depth s is. c.marks_name.ensures marked s (subst (λ (o : Option (Bor (List ℕ))). HasName (option_map (λ name. name.now) o) s) c.in-Some.is is.named)
