@@ -1,10 +1,11 @@
 -- The place of an argument, by the spans of all arguments of a rule.
-use Rattle.std.proofs.Common.{◌≡◌, ◌≤◌, ◌==◌, ℕ, suc, ◌+◌, List, [], ◌∷◌, ◌++◌, Bool, true, false, ◌||◌, length, take, drop, refl, sym, ap, ◌∙◌, arith, append_assoc, append-nil, subst, bytes_eq}
+use Rattle.std.proofs.Common.{◌≡◌, ◌≤◌, ◌==◌, ℕ, suc, ◌+◌, List, [], ◌∷◌, ◌++◌, Bool, true, false, ◌||◌, cond, count_by, filter, length, take, drop, refl, sym, ap, ◌∙◌, arith, append_assoc, append-nil, subst, bytes_eq}
 use Rattle.std.proofs.Math.Seq.{take-append_seam, drop-append_seam}
 use Rattle.std.proofs.lemmas.Bool.{false≢true}
 use Rattle.std.proofs.lemmas.Bool.Decides.{nat_tests}
 use Rattle.std.proofs.lemmas.Iterator.Adapters.{position_from-zero}
 use Rattle.std.proofs.lemmas.List.{length-append}
+use Rattle.std.proofs.lemmas.List.Sums.{length-filter}
 use Rattle.std.specs.List.{concat, position, position_from}
 use Rattle.std.specs.Prelude.{codes, nat_le, Option, Some, None, if◌then◌else◌, option_to_list, unwrap_or}
 use Rattle.bz_token.proofs.Classes.{same_bytes}
@@ -24,7 +25,7 @@ use Rattle.bz_attribute.specs.Effects.{edit_first, has, with_args}
 use Rattle.bz_attribute.specs.RowPlaces.{IsLocal}
 use Rattle.bz_attribute.specs.Rules.{first_named, is_named, is_text as is_text_of, name_of}
 use Rattle.bz_attribute.proofs.Views.{segments_of}
-use Rattle.bz_canonical.specs.Canonical.{AreReadAlone, Between, HasPlace, argument_lines, first_args}
+use Rattle.bz_canonical.specs.Canonical.{AreReadAlone, Between, HasOnce, HasPlace, argument_lines, first_args}
 use Rattle.bz_canonical.specs.SealedRules.{between}
 use Rattle.bz_canonical.specs.Spans.{AreSpans, HasSpans, IsSpannedIn, NamedRule, back_text, front_text, kept, name_argument, statement_of}
 use Rattle.bz_canonical.specs.declared.spans.ArgumentSpan.{ArgumentSpan}
@@ -128,6 +129,39 @@ named_at names attr i a at = by (name_of a.nodes)
     by : (o : Option (List ℕ)) → is_at i (position (λ name. is_text_of name o) names) ≡ is_text_of attr o
     by None = ap (is_at i) (position_from-zero (λ (name : List ℕ). false) names ∙ nowhere 0 names)
     by (Some word) = ap (is_at i) (position_from-zero (λ name. bytes_eq name word) names) ∙ each word (bytes_eq attr word) refl
+
+-- as many spans have a name as arguments
+as_many : (names : List (List ℕ)) (attr : List ℕ) (i : ℕ) → position (λ name. bytes_eq name attr) names ≡ Some i
+    → (from start : ℕ) (args : List Segment) (stands : List (List ℕ)) (spans : List ArgumentSpan) → AreSpans names from start args stands spans
+    → length (filter (λ (span : ArgumentSpan). is_at i span.named) spans) ≡ length (filter (is_named attr) args)
+as_many names attr i at from start [] [] [] are = refl
+as_many names attr i at from start [] [] (s ∷ ss) are = absurd are
+as_many names attr i at from start [] (l ∷ ls) ss are = absurd are
+as_many names attr i at from start (a ∷ args) [] ss are = absurd are
+as_many names attr i at from start (a ∷ args) (l ∷ ls) [] are = absurd are
+as_many names attr i at from start (a ∷ args) (l ∷ ls) (s ∷ ss) are =
+    let same : is_at i s.named ≡ is_named attr a = ap (is_at i) are.0.named ∙ named_at names attr i a at in
+    ap (λ (b : Bool). length (cond b (s ∷ found) found)) same ∙ by (is_named attr a) (as_many names attr i at s.to s.end args ls ss are.1)
+  where
+    found : List ArgumentSpan
+    found = filter (λ (span : ArgumentSpan). is_at i span.named) ss
+
+    named : List Segment
+    named = filter (is_named attr) args
+
+    by : (b : Bool) → length found ≡ length named → length (cond b (s ∷ found) found) ≡ length (cond b (a ∷ named) named)
+    by true same = ap suc same
+    by false same = same
+
+pub has_once : (first depth : ℕ) (names : List (List ℕ)) (attr : List ℕ) (i : ℕ) (s : Statement) (chunk written : List ℕ) (spans : List ArgumentSpan) → position (λ name. bytes_eq name attr) names ≡ Some i
+    → count_by (λ (span : ArgumentSpan). is_at i span.named) spans ≤ 1 → HasSpans first depth names s chunk written spans → HasOnce attr s
+has_once first depth names attr i s chunk written spans at few has =
+    let front : ℕ = length (front_text has.rule.notes has.rule.kind) in
+    let args : List Segment = name_argument has.rule.name ∷ has.rule.args in
+    let many = as_many names attr i at front front args has.stands spans has.spanned.spanned.are in
+    let counted_is = length-filter (λ (span : ArgumentSpan). is_at i span.named) spans in
+    let once : length (filter (is_named attr) args) ≤ 1 = omega (arith, few, many, counted_is) in
+    subst (λ (z : Statement). HasOnce attr z) (sym has.statement_is) (subst (λ xs. length (filter (is_named attr) xs) ≤ 1) (sym (segments_of args)) once)
 
 -- The first argument of a name, or none, has this span among others, and is all that is kept of them.
 record IsPlaceAt (attr : List ℕ) (from start : ℕ) (args : List Segment) (stands : List (List ℕ)) (span : ArgumentSpan) : Type 0 where

@@ -1,5 +1,5 @@
 -- What is known of the chunk that a text begins with, where it stands as it would be written.
-use Rattle.std.specs.Prelude.{◌≡◌, ◌<◌, ℕ, List, [], ◌∷◌, ◌++◌, codes, length, Bool, true, false, Option, None, Some, IfSome, option_to_list}
+use Rattle.std.specs.Prelude.{◌≡◌, ◌<◌, ◌≤◌, ℕ, List, [], ◌∷◌, ◌++◌, codes, filter, length, Bool, true, false, Option, None, Some, IfSome, option_to_list}
 use Rattle.bz_token.specs.declared.token.Kind.TheVariants.{Identifier}
 use Rattle.bz_token.specs.Cuts.{IsChunk}
 use Rattle.bz_tree.specs.declared.tree.Class.{Class}
@@ -17,7 +17,7 @@ use Rattle.bz_layout_laws.specs.Lineless.{lineless}
 use Rattle.bz_layout_laws.specs.TextsOfKinds.{SegsHaveTexts}
 use Rattle.bz_attribute.specs.Effects.{with_args}
 use Rattle.bz_attribute.specs.RowPlaces.{IsLocal}
-use Rattle.bz_attribute.specs.Rules.{Rule, first_named, kind_text, rule_of, name_in}
+use Rattle.bz_attribute.specs.Rules.{Rule, first_named, is_named, kind_text, rule_of, name_in}
 use Rattle.bz_token.specs.Common.{is_empty}
 
 abbrev pub rule_name : Option Rule → Option (List ℕ)
@@ -53,6 +53,10 @@ argument_lines args = bytes_of (broken_segs Broken 1 RuleCall true (segs_of args
 -- the first argument of a name, alone
 abbrev pub first_args : List ℕ → Statement → List Segment
 first_args attr s = option_to_list (first_named attr (rule_args (rule_of s.nodes)))
+
+-- at most one argument has the name
+abbrev pub HasOnce : List ℕ → Statement → Type 0
+HasOnce attr s = length (filter (is_named attr) (rule_args (rule_of s.nodes))) ≤ 1
 
 -- a rule of some arguments, which the comment after them keeps on lines
 abbrev pub small_rule : List Segment → Statement

@@ -45,7 +45,7 @@ pub use commented::{CommentPlace, comment_place};
 pub use edited::EditedList;
 pub use found::{FoundRule, Room, kind_of, seal};
 pub use found_value::lacks;
-pub use place::{ArgumentPlace, argument_place};
+pub use place::{ArgumentPlace, argument_place, has_once};
 pub use removed::put_removed;
 pub use replaced::put_replaced;
 pub use sealed::SpannedRule;

@@ -1,10 +1,10 @@
 //! Where the lines of an argument stand in a rule, by the spans of all.
 
-ghost use Rattle.std.specs.Prelude.{◌≡◌, ◌==◌, ℕ, List, Some, false, bytes_eq, IfSome};
+ghost use Rattle.std.specs.Prelude.{◌≡◌, ◌==◌, ℕ, List, Some, false, bytes_eq, count_by, IfSome, IsTrue};
 ghost use Rattle.std.specs.List.{position};
 ghost use Rattle.bz_token.specs.Common.{map_or};
 ghost use Rattle.bz_tree.specs.Tree.{Statement};
-ghost use Rattle.bz_canonical.specs.Canonical.{HasPlace, between};
+ghost use Rattle.bz_canonical.specs.Canonical.{HasOnce, HasPlace, between};
 ghost use Rattle.bz_canonical.specs.Spans.{HasSpans};
 ghost use Rattle.bz_canonical.specs.private.Places.{no_lines, span_named};
 
@@ -48,6 +48,22 @@ pub fn argument_place<'t>(
         after,
         may_go: rule.spans.len() > 2,
     })
+}
+
+/// At most one argument has the name at this position among those that are asked for.
+pub fn has_once(spans: &[ArgumentSpan], name: usize) -> bool
+    ensures { IsTrue result → (first depth : ℕ) (names : List (List ℕ)) (attr : List ℕ) (s : Statement)
+        (chunk written : List ℕ) → HasSpans first depth names s chunk written spans.now
+        → position (λ asked. bytes_eq asked attr) names ≡ Some name → HasOnce attr s }
+{
+    count_named(spans, name) <= 1
+}
+
+/// How many arguments have this name.
+fn count_named(spans: &[ArgumentSpan], name: usize) -> usize
+    ensures { result ≡ count_by (λ span. map_or false (λ index. index == name) span.named) spans.now }
+{
+    spans.iter().filter(|span| has_name(**span, name)).count()
 }
 
 /// The span of the first argument that has this name. Where there is none: one without lines, after the last.

@@ -10,4 +10,5 @@ pub mod Finds
 pub mod Found
 pub mod ArgumentEdits
 pub mod Renamed
+pub mod Gone
 pub mod Marked

@@ -2,14 +2,14 @@
 
 ghost use Rattle.std.specs.Prelude.{◌≡◌, ℕ, IfOk, IfSome, IsTrue, None, Some, false};
 ghost use Rattle.bz_tree.specs.Tree.{Statement};
-ghost use Rattle.bz_canonical.specs.Canonical.{HasName};
+ghost use Rattle.bz_canonical.specs.Canonical.{HasName, HasOnce};
 ghost use Rattle.bz_engine.specs.private.Found.{HasItsSpans, IsFound, IsFoundOn, IsPlaceIn, IsWithout, LeavesRule, Makes, told_line};
 
 use crate::canonical::Found;
 use crate::edit::ScriptRun;
 use crate::names::position_of;
 use bz_attribute::Env;
-use bz_canonical::{ArgumentPlace, SpannedRule, argument_place};
+use bz_canonical::{ArgumentPlace, SpannedRule, argument_place, has_once};
 use bz_label::Package;
 use bz_memory::NoMemory;
 use bz_rule::commands::print::print_name;
@@ -109,6 +109,21 @@ pub(crate) fn is_without_by_spans(script: ScriptRun<'_>, found: &Found<'_>, attr
 {
     match place_of(script, found, attr) {
         Some(place) => place.lines.is_empty(),
+        None => false,
+    }
+}
+
+/// At most one argument of the rule has this name, as the spans of all show.
+pub(crate) fn has_once_by_spans(script: ScriptRun<'_>, found: &Found<'_>, attr: &str) -> bool
+    requires { HasItsSpans script.max_depth script.passes.now found.now }
+    ensures { IsTrue result → (line : ℕ) (s : Statement) → IsFoundOn script.entry.max_depth line found.now s
+        → HasOnce attr.now s }
+{
+    if !found.chunk.noted {
+        return false;
+    }
+    match position_of(script.passes.names(), attr) {
+        Some(at) => has_once(found.spans, at),
         None => false,
     }
 }

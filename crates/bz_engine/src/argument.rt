@@ -69,7 +69,7 @@ pub(crate) fn execute_in_place(
 }
 
 /// Lines may stand in this place: some, or none where the argument may go.
-fn may_stand(place: ArgumentPlace<'_>, some: bool) -> bool
+pub(crate) fn may_stand(place: ArgumentPlace<'_>, some: bool) -> bool
     ensures { IsTrue result → some ≡ false → place.entry.may_go ≡ true }
 {
     place.may_go || some

@@ -4,19 +4,22 @@
 ghost use Rattle.std.specs.Prelude.{◌≡◌, ◌++◌, if◌then◌else◌, [], ◌∷◌, ℕ, Some, false, true, bytes_eq, codes, IfOk, OnOk, IfSome, IsTrue};
 ghost use Rattle.bz_tree.specs.Tree.{Statement};
 ghost use Rattle.bz_layout.specs.Layout.{layout_text};
+ghost use Rattle.bz_canonical.specs.Canonical.{HasOnce};
 ghost use Rattle.bz_passes.specs.Exchange.{Fits};
+ghost use Rattle.bz_label.specs.declared.arguments.Attributes.TheVariants.{Named};
 ghost use Rattle.bz_label.specs.declared.arguments.Commented.TheVariants.{Attribute};
-ghost use Rattle.bz_rule.specs.declared.command.Action.TheVariants.{Comment, Rename};
+ghost use Rattle.bz_rule.specs.declared.command.Action.TheVariants.{Comment, Remove, Rename};
 ghost use Rattle.bz_rule.specs.OneAttribute.{one_attribute};
 ghost use Rattle.bz_engine.specs.Outcome.{is_query};
 ghost use Rattle.bz_engine.specs.Progress.{text_following};
 ghost use Rattle.bz_engine.specs.private.Edits.{run_of};
 ghost use Rattle.bz_engine.specs.private.Found.{HasItsSpans, IsForOne, IsFound, IsFoundOn, IsWithout};
+ghost use Rattle.bz_engine.specs.private.Gone.{IsGone};
 ghost use Rattle.bz_engine.specs.private.NextChunks.{EditsFound};
 ghost use Rattle.bz_engine.specs.private.Renamed.{TakesName};
 
-use crate::answer::is_without_by_spans;
-use crate::argument::{EditedArgument, execute_in_place, execute_on_lines, is_long};
+use crate::answer::{has_once_by_spans, is_without_by_spans};
+use crate::argument::{EditedArgument, execute_in_place, execute_on_lines, is_long, may_stand};
 use crate::canonical::Found;
 use crate::edit::ScriptRun;
 use crate::progress::Progress;
@@ -26,7 +29,7 @@ use bz_canonical::{ArgumentPlace, EditedList, comment_place};
 use bz_layout::put_gap;
 use bz_memory::{NoMemory, extend_from_slice};
 use bz_rule::commands::comment::comment_line;
-use bz_rule::forms::{AttributeComment, RenamedAttribute, comment_by, renamed_by};
+use bz_rule::forms::{AttributeComment, RenamedAttribute, comment_by, gone_by, renamed_by};
 use bz_rule::one_attribute;
 use bz_tree::Class;
 
@@ -58,6 +61,9 @@ pub(crate) fn edit_marked(
     }
     if let Some(renamed) = renamed_by(only.command) {
         return put_renamed(script, marked, renamed, progress, text);
+    }
+    if let Some(attr) = gone_by(only.command) {
+        return put_gone(script, marked, attr, progress, text);
     }
     if is_long(found.place) {
         return edit_long_argument(script, marked, progress, text);
@@ -171,6 +177,58 @@ fn name_place<'a>(found: &Found<'a>, attr: &str) -> Option<NamePlace<'a>>
         before: at.above,
         after,
     })
+}
+
+/// The command removes an attribute. False for the name: a pass that comes after may mark the rule by that.
+fn put_gone(
+    script: ScriptRun<'_>,
+    marked: MarkedRule<'_>,
+    attr: &str,
+    progress: &mut Progress,
+    text: &mut Vec<u8>,
+) -> Result<bool, NoMemory>
+    requires only { IsForOne script.home.now script.passes.now marked.only
+        (IsFoundOn script.max_depth progress.old.line marked.found.now) }
+    requires fits { Fits progress.old.kept script.passes.now }
+    requires spans { HasItsSpans script.max_depth script.passes.now marked.found.now }
+    requires gone { marked.only.command.now ≡ Remove (Named attr.now) [] }
+    ensures { IfOk result (EditsFound (run_of script.entry) marked.entry.found.now progress.old progress.new
+        text.old.items text.new.items) }
+{
+    let MarkedRule { only, found } = marked;
+    if attr == "name" || !has_once_by_spans(script, found, attr) {
+        return Ok(false);
+    }
+    let Some(place) = gone_place(found, attr) else {
+        return Ok(false);
+    };
+    progress.keep_line(only.at, None)?;
+    let changed = Changed {
+        class: found.chunk.class,
+        before: place.before,
+        lines: &[],
+        after: place.after,
+    };
+    changed.put(script, progress, text)?;
+    Ok(true)
+}
+
+/// The place of the argument of this name, where the rule stays on lines without it. None also if another one was looked
+/// for.
+fn gone_place<'a>(found: &Found<'a>, attr: &str) -> Option<ArgumentPlace<'a>>
+    ensures { IfSome result (λ place. (depth : ℕ) (s : Statement) → IsFound depth found.now s → HasOnce attr.now s
+        → IsGone attr.now s place.before.now place.after.now) }
+{
+    if attr != found.attr {
+        return None;
+    }
+    let Some(place) = found.place else {
+        return None;
+    };
+    if place.lines.is_empty() || !may_stand(place, false) {
+        return None;
+    }
+    Some(place)
 }
 
 /// The one command edits an argument of many lines: what it makes of these is written where it is to stand.

@@ -269,6 +269,9 @@ above_stays home text s r rule =
 pub name_stays : (c : Command) (home : Package) (attr : List ℕ) (args : List Segment) → one_attribute c ≡ Some attr → bytes_eq attr (codes "name") ≡ false → name_in (args_after c home args) ≡ name_in args
 name_stays c home attr args is h = ap (option_and_then (λ a. string_value (value a))) (name_kept c home attr is h args)
 
--- and so does one that renames another attribute
+-- and so does one that removes or renames another attribute
+pub removed_name_stays : (home : Package) (attr : List ℕ) (args : List Segment) → bytes_eq attr (codes "name") ≡ false → name_in (args_after (Remove (Named attr) []) home args) ≡ name_in args
+removed_name_stays home attr args h = ap (option_and_then (λ a. string_value (value a))) (beside_removed (codes "name") attr args h)
+
 pub renamed_name_stays : (home : Package) (old new : List ℕ) (args : List Segment) → bytes_eq old (codes "name") ≡ false → bytes_eq new (codes "name") ≡ false → name_in (args_after (Rename old new) home args) ≡ name_in args
 renamed_name_stays home old new args h g = ap (option_and_then (λ a. string_value (value a))) (beside_renamed (codes "name") old new args h g)

@@ -1,7 +1,7 @@
 //! The words of a command of a certain form, for crates that know a rule by its text alone: which attribute it looks
 //! at, and what it writes there.
 
-ghost use Rattle.std.specs.Prelude.{◌≡◌, IfSome, Some, false};
+ghost use Rattle.std.specs.Prelude.{◌≡◌, [], IfSome, Some, false};
 ghost use Rattle.bz_token.specs.Common.{is_empty};
 ghost use Rattle.bz_label.specs.declared.arguments.Attributes.TheVariants.{Named};
 ghost use Rattle.bz_label.specs.declared.arguments.Commented.TheVariants.{Attribute};
@@ -141,6 +141,19 @@ pub fn removed_by(command: &Command) -> Option<AttributeValues<'_>>
         attr: attr.as_str(),
         values,
     })
+}
+
+/// The attribute that the command removes, whatever its value is.
+pub fn gone_by(command: &Command) -> Option<&str>
+    ensures { IfSome result (λ attr. command.now ≡ Remove (Named attr.now) []) }
+{
+    let Action::Remove(Attributes::Named(attr), values) = &command.action else {
+        return None;
+    };
+    let [] = values.as_slice() else {
+        return None;
+    };
+    Some(attr.as_str())
 }
 
 /// The values that the command adds.
