@@ -18,9 +18,13 @@ use crate::place::{comments_len, tokens_len};
 use crate::texts::push_home;
 use bumpalo::Bump;
 use bz_label::{Marked, Package, Target, plain_text, read_value};
-use bz_memory::{NoMemory, alloc_str, push_str};
+use bz_memory::{NoMemory, alloc_str, push_str, with_length_of};
 use bz_tree::{Class, GroupKind, Part, Row};
 use std::alloc::Global;
+
+// Most messages on a rule are no longer, and are made of what shows it without making room for more.
+const LONG_MESSAGE: &str =
+    "//the/package/of/many/rules:the_name_of_a_rule_of_the_package: no attribute 'visibility' to print";
 
 /// The head of a rule: what its kind, its name and its lines are.
 #[derive(Clone, Copy)]
@@ -96,7 +100,7 @@ impl<'a> Head<'a> {
         ensures { IfOk result (λ text. (s : Statement) → IsHeadOf self.now s
             → string_bytes text ≡ shown_text home.now s) }
     {
-        let mut text = String::new(alloc);
+        let mut text = with_length_of(alloc, LONG_MESSAGE)?;
         push_home(&mut text, home)?;
         match self.name {
             Some(name) => push_str(&mut text, name)?,

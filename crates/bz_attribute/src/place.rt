@@ -71,6 +71,14 @@ pub(crate) fn segment_len(parts: &[Part<'_>]) -> usize
     match parts {
         // Most elements are one token.
         [Part::Token(_, _), Part::End, after @ ..] => 2 + besides(after),
+        // Many arguments are a name, an equals sign and one token.
+        [
+            Part::Token(_, _),
+            Part::Token(_, _),
+            Part::Token(_, _),
+            Part::End,
+            after @ ..,
+        ] => 4 + besides(after),
         _ => long_segment_len(parts),
     }
 }

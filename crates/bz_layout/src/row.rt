@@ -17,6 +17,7 @@ use bz_tree::{Class, Part, Row, Stmt, push_parts};
 use std::alloc::Global;
 
 // The comments above the statement, each with its newline.
+#[inline(always)]
 fn put_leading(parts: &[Part<'_>], out: &mut Vec<u8>) -> Result<(), NoMemory>
     ensures { Puts result out.old.items out.new.items (bytes_of (comment_lines (leading (map part_view parts.now)))) }
 {

@@ -204,7 +204,7 @@ impl<'b> RowWriter<'b> {
         Ok(0)
     }
 
-    #[inline(never)]
+    #[inline(always)]
     fn open<T: NewLine>(&mut self, kind: GroupKind, out: &mut T) -> Result<(), NoMemory>
         requires { self.old.level + 1 < 2 ^ 64 }
         ensures { Lays result (opened kind) self.old (T.bytes out.old) self.new (T.bytes out.new) }
@@ -225,7 +225,7 @@ impl<'b> RowWriter<'b> {
         Ok(())
     }
 
-    #[inline(never)]
+    #[inline(always)]
     fn close<T: NewLine>(&mut self, one_comma: bool, out: &mut T) -> Result<(), NoMemory>
         ensures { Lays result (closed_by one_comma) self.old (T.bytes out.old) self.new (T.bytes out.new) }
     {

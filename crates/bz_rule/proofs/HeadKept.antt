@@ -1,6 +1,7 @@
 -- The head of a rule, where a command edits another attribute than its name.
-use Rattle.std.proofs.Common.{◌≡◌, ◌∙◌, ℕ, List, [], ◌∷◌, ◌++◌, Bool, true, false, ◌||◌, not, drop, filter, if◌then◌else◌, Option, Some, None, is_some, map, option_map, length, ◌+◌, refl, ap, sym, subst, arith, length-append, option_and_then}
+use Rattle.std.proofs.Common.{◌≡◌, ◌∙◌, ℕ, List, [], ◌∷◌, ◌++◌, Bool, true, false, ◌||◌, not, drop, filter, if◌then◌else◌, Option, Some, None, is_some, map, option_map, length, ◌+◌, refl, ap, sym, subst, arith, length-append, option_and_then, inl, inr}
 use Rattle.std.specs.Prelude.{bytes_eq, codes}
+use Rattle.std.proofs.lemmas.Bool.{cases_Bool}
 use Rattle.std.proofs.lemmas.Slice.Eq.{bytes_eq-Decides}
 use Rattle.bz_token.specs.declared.token.Kind.TheVariants.{Identifier}
 use Rattle.bz_tree.specs.Tree.{Item, Segment, Statement, is_operator_item, leaf}
@@ -10,21 +11,22 @@ use Rattle.bz_label.specs.declared.arguments.Commented.TheVariants.{Rule as Abov
 use Rattle.bz_label.specs.declared.arguments.Chosen.{Chosen}
 use Rattle.bz_label.specs.declared.arguments.Chosen.TheVariants.{Values}
 use Rattle.bz_label.specs.declared.arguments.Setting.TheVariants.{ToKind, ToValues}
-use Rattle.bz_attribute.specs.Rules.{Rule, rule_of, first_named, is_named, is_text, name_in, name_of, value, string_value}
+use Rattle.bz_attribute.specs.Rules.{Rule, rule_of, kind_text, first_named, is_named, is_text, name_in, name_of, value, string_value}
 use Rattle.bz_attribute.specs.Lists.{edit_parts, equals, parts, with_value}
 use Rattle.bz_attribute.specs.ListWalk.{edit_first_part, edit_element}
 use Rattle.bz_rule.specs.Add.{add}
 use Rattle.bz_rule.specs.AddByValue.{add_by_value, new_elements, with_added}
 use Rattle.bz_rule.proofs.Adds.{by_value_is}
 use Rattle.bz_rule.specs.Comment.{comment_attribute, comment_element, comment_line, comment_note, comment_rule, comment_value}
-use Rattle.bz_attribute.specs.Effects.{argument, edit_first, edit_part, filtered, has, is_chosen, list_item, loses_all, unchosen, with_args, with_comment}
+use Rattle.bz_attribute.specs.Effects.{argument, edit_first, edit_part, filtered, has, is_chosen, list_item, loses_all, nodes_of, unchosen, with_args, with_comment}
 use Rattle.bz_attribute.specs.Heads.{HasHead}
 use Rattle.bz_attribute.specs.declared.head.Head.{Head}
 use Rattle.bz_rule.specs.Move.{arrivals, elements_of, move, move_note, put_in}
 use Rattle.bz_rule.specs.Rename.{rename, rename_note, rename_to}
 use Rattle.bz_rule.specs.Replace.{replace, replaced, replaced_in}
 use Rattle.bz_attribute.specs.RowPlaces.{IsLocal}
-use Rattle.bz_rule.specs.Set.{is_value, new_of, new_value, set, set_if_absent, set_in}
+use Rattle.bz_rule.specs.Set.{is_value, kind_items, new_of, new_value, set, set_if_absent, set_in, with_kind}
+use Rattle.bz_rule.specs.private.Steps.{kind_after}
 use Rattle.bz_attribute.proofs.EditedAt.{none_first}
 use Rattle.bz_rule.specs.Commands.{Command, args_after}
 use Rattle.bz_rule.specs.declared.command.Action.TheVariants.{Add, Comment, Delete, Move, Print, Remove, Rename, Replace, Set, SetIfAbsent}
@@ -32,10 +34,12 @@ use Rattle.bz_rule.specs.OneAttribute.{one_attribute}
 use Rattle.bz_rule.specs.private.RowEdits.{KeepsHead, edits_arguments, rule_after}
 use Rattle.bz_rule.proofs.Arguments.{attribute_named, name_put}
 use Rattle.bz_rule.proofs.Lawfulness.{local}
+use Rattle.bz_rule.proofs.Lawfulness.Set.{kind_read}
+use Rattle.bz_rule.proofs.RuleClass.{kind_dotted}
 use Rattle.bz_rule.proofs.RowEdited.{args_rule, none_above}
 use Rattle.bz_token.specs.Common.{is_empty, map_or}
 use Rattle.bz_attribute.proofs.Locals.{has_first, is_first_named}
-use Rattle.bz_attribute.proofs.EditedRules.{rule_after as rule_edited, rule_with}
+use Rattle.bz_attribute.proofs.EditedRules.{nodes_read, rule_after as rule_edited, rule_with}
 
 -- two names that differ, either way round
 other_way : (a b : List ℕ) → bytes_eq a b ≡ false → bytes_eq b a ≡ false
@@ -275,3 +279,23 @@ removed_name_stays home attr args h = ap (option_and_then (λ a. string_value (v
 
 pub renamed_name_stays : (home : Package) (old new : List ℕ) (args : List Segment) → bytes_eq old (codes "name") ≡ false → bytes_eq new (codes "name") ≡ false → name_in (args_after (Rename old new) home args) ≡ name_in args
 renamed_name_stays home old new args h g = ap (option_and_then (λ a. string_value (value a))) (beside_renamed (codes "name") old new args h g)
+
+-- the rule that a statement is once it has this kind
+pub record IsOfKind (kind : List ℕ) (s : Statement) (r : Rule) : Type 0 where
+  pub rule : Rule
+  pub is : rule_of (with_kind kind s).nodes ≡ Some rule
+  pub kind_is : kind_text rule.kind ≡ kind
+  pub args : rule.args ≡ r.args
+
+kind_nodes : (kind : List ℕ) (s : Statement) (r : Rule) (b : Bool) → rule_of s.nodes ≡ Some r → bytes_eq (kind_text r.kind) kind ≡ b → (with_kind kind s).nodes ≡ (if b then s.nodes else nodes_of (record r { kind = kind_items kind }))
+kind_nodes kind s r b is e =
+    let other : Rule = record r { kind = kind_items kind } in
+    ap (kind_after kind s.nodes) is ∙ ap (λ (same : Bool). if same then s.nodes else nodes_of other) e
+
+pub of_kind : (kind : List ℕ) (s : Statement) (r : Rule) → rule_of s.nodes ≡ Some r → IsOfKind kind s r
+of_kind kind s r is =
+    let other : Rule = record r { kind = kind_items kind } in
+    elim (cases_Bool (bytes_eq (kind_text r.kind) kind)) [
+      | inl e ↦ record { rule = r; is = ap rule_of (kind_nodes kind s r true is e) ∙ is; kind_is = (bytes_eq-Decides (kind_text r.kind) kind).0 e; args = refl }
+      | inr e ↦ record { rule = other; is = ap rule_of (kind_nodes kind s r false is e) ∙ nodes_read other (kind_dotted kind); kind_is = kind_read kind; args = refl }
+    ]

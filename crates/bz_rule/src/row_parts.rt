@@ -21,7 +21,10 @@ pub(crate) fn put_in<'a>(
     let behind = place.from + new.len();
     // Longer by what is too much of the new.
     extend_from_slice(list, &new[new.len().min(place.to - place.from)..])?;
-    list.copy_within(place.to..end, behind);
+    // Where as many come as go, what is behind stays.
+    if behind != place.to {
+        list.copy_within(place.to..end, behind);
+    }
     list.truncate(behind + (end - place.to));
     list[place.from..behind].copy_from_slice(new);
     Ok(())

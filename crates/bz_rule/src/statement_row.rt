@@ -17,6 +17,7 @@ ghost use Rattle.bz_rule.specs.Reports.{prints};
 ghost use Rattle.bz_layout.specs.Layout.{layout_text};
 ghost use Rattle.bz_rule.specs.Commands as commands;
 ghost use Rattle.bz_attribute.specs.RowEdits.{IsWithin, replaced_at};
+ghost use Rattle.bz_rule.specs.Set.{with_kind};
 ghost use Rattle.bz_rule.specs.private.RowEdits.{is_edit, rule_after};
 
 use crate::command::{Action, Command};
@@ -26,9 +27,9 @@ use crate::row_edit::{edit_rule, kept_head};
 use crate::row_parts::put_in;
 use bumpalo::Bump;
 use bz_attribute::{Done, Env, Executed, Head, Parts, Place, is_rule};
-use bz_label::{Package, Target};
+use bz_label::{Package, Setting, Target};
 use bz_layout::put_row;
-use bz_memory::{NoMemory, extend_from_slice, with_room_for_both};
+use bz_memory::{NoMemory, alloc_str, extend_from_slice, with_room_for_both};
 use bz_tree::{Class, Part, Row, Stmt, push_parts, stmt_of_parts};
 use std::alloc::Global;
 use std::marker::Model;
@@ -199,6 +200,12 @@ impl<'a> StatementRow<'a> {
             self.comments = self.comments.saturating_add(more);
             return Ok(());
         }
+        if let Action::Set(Setting::ToKind(kind)) = &command.action {
+            let kind = alloc_str(self.bump, kind.as_str())?;
+            put_in(&mut self.row.parts, place, new)?;
+            self.head = of_kind(self.head, kind);
+            return Ok(());
+        }
         let mut list = with_room_for_both(self.bump, &self.row.parts, new, ROOM)?;
         extend_from_slice(&mut list, &self.row.parts)?;
         put_in(&mut list, place, new)?;
@@ -227,6 +234,16 @@ impl<'a> StatementRow<'a> {
         };
         self.spare = new;
         done_unless(changed, Ok(edit.done))
+    }
+}
+
+// The head of the statement once it has this kind, if it is a rule: nothing else of it is another.
+fn of_kind<'a>(head: Option<Head<'a>>, kind: &'a str) -> Option<Head<'a>>
+    ensures { (s : Statement) → HasHead head.entry s → HasHead result (with_kind kind.now s) }
+{
+    match head {
+        None => None,
+        Some(head) => Some(Head { kind, ..head }),
     }
 }
 
