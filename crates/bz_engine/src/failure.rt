@@ -11,10 +11,10 @@ ghost use Rattle.bz_engine.specs.private.Found.{TellsRule};
 use crate::answer::is_without;
 use crate::canonical::Found;
 use crate::edit::ScriptRun;
-use crate::message::{missing_name, note_entry};
+use crate::message::{LONG_MESSAGE, missing_name, note_entry};
 use bz_attribute::push_home;
 use bz_label::Package;
-use bz_memory::{NoMemory, push_str};
+use bz_memory::{NoMemory, push_str, with_length_of};
 use bz_passes::entry::Entry;
 use bz_rule::forms::{needed, printed_by};
 use bz_rule::{Command, Field, Note, Text};
@@ -116,9 +116,9 @@ fn no_attribute(alloc: Global, home: &Package, name: &str, attr: &str) -> Result
     ensures { IfOk result (λ entry. entry
         ≡ note_entry (home_text home.now ++ name.now) (NoAttribute attr.now)) }
 {
-    let mut rule = String::new(alloc);
+    let mut rule = with_length_of(alloc, LONG_MESSAGE)?;
     push_home(&mut rule, home)?;
     push_str(&mut rule, name)?;
     let note = Note::NoAttribute(Text::from_str(alloc, attr)?);
-    note_entry(alloc, rule.as_str(), &note)
+    note_entry(rule, &note)
 }

@@ -1,13 +1,13 @@
 //! The texts of messages.
 
-ghost use Rattle.std.specs.Prelude.{◌≡◌, ◌++◌, codes, IfOk};
+ghost use Rattle.std.specs.Prelude.{◌≡◌, ◌++◌, codes, string_bytes, IfOk};
 ghost use Rattle.bz_attribute.specs.Texts.{home_text};
 ghost use Rattle.bz_engine.specs.declared.report.SyntaxFault.TheVariants.{Parse};
 ghost use Rattle.bz_engine.specs.Messages.{not_found_text, note_entry, lex_text, fault_text, placed, lined};
 
 use crate::report::SyntaxFault;
 use bz_attribute::push_home;
-use bz_memory::{NoMemory, from_str, push_number, push_str, with_length_of};
+use bz_memory::{NoMemory, push_number, push_str, with_length_of};
 use bz_passes::entry::Entry;
 use bz_rule::{Note, Package, Target, Text, label};
 use bz_token::LexFault;
@@ -25,36 +25,36 @@ pub(crate) fn not_found(alloc: Global, home: &Package, target: &Target) -> Resul
 
 /// What is told of a note on a rule, which is shown as `rule`: whether it is a warning or a failure, and its text. All
 /// else follows from that: the status, and whether the run goes on.
-pub(crate) fn note_entry(alloc: Global, rule: &str, note: &Note) -> Result<Entry, NoMemory>
-    ensures { IfOk result (λ entry. entry ≡ note_entry rule.now note.now) }
+pub(crate) fn note_entry(rule: String, note: &Note) -> Result<Entry, NoMemory>
+    ensures { IfOk result (λ entry. entry ≡ note_entry (string_bytes rule) note.now) }
 {
     match note {
         Note::Missing(attr) => {
-            let text = of_attribute(alloc, rule, ": no attribute '", attr.as_str(), "' to print")?;
+            let text = of_attribute(rule, ": no attribute '", attr.as_str(), "' to print")?;
             Ok(Entry::Warning(text))
         }
         Note::NoAttribute(attr) => {
-            let text = of_attribute(alloc, rule, ": no attribute '", attr.as_str(), "'")?;
+            let text = of_attribute(rule, ": no attribute '", attr.as_str(), "'")?;
             Ok(Entry::Failure(text))
         }
         Note::AttributeExists(attr) => {
             let after = "' is already there";
-            let text = of_attribute(alloc, rule, ": attribute '", attr.as_str(), after)?;
+            let text = of_attribute(rule, ": attribute '", attr.as_str(), after)?;
             Ok(Entry::Failure(text))
         }
         Note::NotAList(attr) => {
-            let text = of_attribute(alloc, rule, ": attribute '", attr.as_str(), "' has no list")?;
+            let text = of_attribute(rule, ": attribute '", attr.as_str(), "' has no list")?;
             Ok(Entry::Failure(text))
         }
         Note::NoValue { attr, value } => {
-            let text = no_value(alloc, rule, attr.as_str(), value.as_str())?;
+            let text = no_value(rule, attr.as_str(), value.as_str())?;
             Ok(Entry::Failure(text))
         }
     }
 }
 
 // Few messages are longer: the others are made without making room for more.
-const LONG_MESSAGE: &str =
+pub(crate) const LONG_MESSAGE: &str =
     "//the/package/of/many/rules:the_name_of_a_rule: no attribute 'visibility' to print";
 
 /// The note on a rule of this kind without a name, where that is to be printed.
@@ -71,28 +71,21 @@ pub(crate) fn missing_name(alloc: Global, home: &Package, kind: &str) -> Result<
 }
 
 /// A rule, and what is said of one of its attributes.
-fn of_attribute(
-    alloc: Global,
-    rule: &str,
-    before: &str,
-    attr: &str,
-    after: &str,
-) -> Result<Text, NoMemory>
-    ensures { IfOk result (λ t. t ≡ rule.now ++ before.now ++ attr.now ++ after.now) }
+fn of_attribute(rule: String, before: &str, attr: &str, after: &str) -> Result<Text, NoMemory>
+    ensures { IfOk result (λ t. t ≡ string_bytes rule ++ before.now ++ attr.now ++ after.now) }
 {
-    let mut text = with_length_of(alloc, LONG_MESSAGE)?;
-    push_str(&mut text, rule)?;
+    let mut text = rule;
     push_str(&mut text, before)?;
     push_str(&mut text, attr)?;
     push_str(&mut text, after)?;
     Ok(Text::from_string(text))
 }
 
-fn no_value(alloc: Global, rule: &str, attr: &str, value: &str) -> Result<Text, NoMemory>
-    ensures { IfOk result (λ t. t ≡ rule.now ++ codes ": no value '" ++ value.now ++ codes "' in attribute '"
+fn no_value(rule: String, attr: &str, value: &str) -> Result<Text, NoMemory>
+    ensures { IfOk result (λ t. t ≡ string_bytes rule ++ codes ": no value '" ++ value.now ++ codes "' in attribute '"
         ++ attr.now ++ codes "'") }
 {
-    let mut text = from_str(alloc, rule)?;
+    let mut text = rule;
     push_str(&mut text, ": no value '")?;
     push_str(&mut text, value)?;
     push_str(&mut text, "' in attribute '")?;

@@ -81,9 +81,9 @@ impl<'a> Language for Rules<'a> {
             alloc: self.alloc,
             home: self.home,
         };
-        let mut done = execute(env, command, slot)?;
+        let done = execute(env, command, slot)?;
         // Where there is a note, the slot is as the command found it.
-        tell_done(self.alloc, self.home, slot, &mut done, log)
+        tell_done(self.alloc, self.home, slot, &done, log)
     }
 }
 
@@ -93,26 +93,28 @@ fn tell_done(
     alloc: Global,
     home: &Package,
     slot: &Option<StatementRow<'_>>,
-    done: &mut Done,
+    done: &Done,
     log: &mut Log,
 ) -> Result<Facts, NoMemory>
-    ensures told { OnOk result (log.new ≡ log.old ++ (map Line (option_to_list done.old.line)
-        ++ note_told (map_or [] (shown_text home.now) slot.now) done.old.note)) }
-    ensures changed { IfOk result (λ facts. facts.changed ≡ done.old.changed) }
+    ensures told { OnOk result (log.new ≡ log.old ++ (map Line (option_to_list done.now.line)
+        ++ note_told (map_or [] (shown_text home.now) slot.now) done.now.note)) }
+    ensures changed { IfOk result (λ facts. facts.changed ≡ done.now.changed) }
     ensures failed { IfOk result (λ facts. facts.failed
-        ≡ has_failure (note_told (map_or [] (shown_text home.now) slot.now) done.old.note)) }
+        ≡ has_failure (note_told (map_or [] (shown_text home.now) slot.now) done.now.note)) }
 {
-    let changed = done.changed;
-    tell_line(done.line.take(), log)?;
+    tell_line(&done.line, log)?;
     let failed = tell_note(alloc, home, slot, &done.note, log)?;
-    Ok(Facts { changed, failed })
+    Ok(Facts {
+        changed: done.changed,
+        failed,
+    })
 }
 
-fn tell_line(line: Option<Text>, log: &mut Log) -> Result<(), NoMemory>
-    ensures { OnOk result (log.new ≡ log.old ++ map Line (option_to_list line)) }
+fn tell_line(line: &Option<Text>, log: &mut Log) -> Result<(), NoMemory>
+    ensures { OnOk result (log.new ≡ log.old ++ map Line (option_to_list line.now)) }
 {
     if let Some(text) = line {
-        log.push(Entry::Line(text))?;
+        log.push_line(text.as_str())?;
     }
     Ok(())
 }
@@ -155,7 +157,7 @@ fn entry_on(
     ensures { IfOk result (λ entry. entry ≡ note_entry (map_or [] (shown_text home.now) slot.now) note.now) }
 {
     let rule = shown_slot(alloc, home, slot)?;
-    message::note_entry(alloc, rule.as_str(), note)
+    message::note_entry(rule, note)
 }
 
 /// The rule in a slot, as it is shown; empty where there is none.
