@@ -31,6 +31,7 @@ pub struct FoundRule<'a> {
 
 /// The kind of the rule of this chunk, whose arguments have these spans. It stands before the bracket, after the comments
 /// above the rule.
+#[inline(always)]
 pub fn kind_of<'a>(chunk: &'a str, spans: &[ArgumentSpan]) -> Option<&'a str>
     ensures { IfSome result (λ kind. (depth : ℕ) (names : List (List ℕ)) (r : NamedRule)
         (stands : List (List ℕ))

@@ -119,6 +119,7 @@ impl Progress {
         mem::replace(&mut self.spare, Spare::new(alloc))
     }
 
+    #[inline(always)]
     pub(crate) fn give_back(&mut self, spare: Spare)
         ensures { self.new ≡ self.old }
     {

@@ -20,6 +20,7 @@ use bz_rule::{Command, Target};
 const MOST: usize = 8;
 
 /// No pass of the script may mark the statement of this head.
+#[inline(always)]
 pub(crate) fn is_passed_by(script: ScriptRun<'_>, head: Option<Head<'_>>) -> bool
     ensures { IsTrue result → (s : Statement) → HasHead head.entry s
         → IsPassedBy (meaning script.entry.home.now) (changes script.entry.home.now)

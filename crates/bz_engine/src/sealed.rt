@@ -53,7 +53,7 @@ pub(crate) fn edit_sealed(
 }
 
 /// Runs the script on a rule that was noted, which some pass may mark. None, with nothing done: the rule is to be read.
-#[inline(never)]
+#[inline(always)]
 fn edit_noted(
     script: ScriptRun<'_>,
     found: &Found<'_>,
