@@ -26,7 +26,7 @@ pub(crate) fn not_found(alloc: Global, home: &Package, target: &Target) -> Resul
 /// What is told of a note on a rule, which is shown as `rule`: whether it is a warning or a failure, and its text. All
 /// else follows from that: the status, and whether the run goes on.
 pub(crate) fn note_entry(rule: String, note: &Note) -> Result<Entry, NoMemory>
-    ensures { IfOk result (λ entry. entry ≡ note_entry (string_bytes rule.entry) note.now) }
+    ensures { IfOk result (λ entry. entry ≡ note_entry (string_bytes rule) note.now) }
 {
     match note {
         Note::Missing(attr) => {
@@ -72,7 +72,7 @@ pub(crate) fn missing_name(alloc: Global, home: &Package, kind: &str) -> Result<
 
 /// A rule, and what is said of one of its attributes.
 fn of_attribute(rule: String, before: &str, attr: &str, after: &str) -> Result<Text, NoMemory>
-    ensures { IfOk result (λ t. t ≡ string_bytes rule.entry ++ before.now ++ attr.now ++ after.now) }
+    ensures { IfOk result (λ t. t ≡ string_bytes rule ++ before.now ++ attr.now ++ after.now) }
 {
     let mut text = rule;
     push_str(&mut text, before)?;
@@ -82,7 +82,7 @@ fn of_attribute(rule: String, before: &str, attr: &str, after: &str) -> Result<T
 }
 
 fn no_value(rule: String, attr: &str, value: &str) -> Result<Text, NoMemory>
-    ensures { IfOk result (λ t. t ≡ string_bytes rule.entry ++ codes ": no value '" ++ value.now ++ codes "' in attribute '"
+    ensures { IfOk result (λ t. t ≡ string_bytes rule ++ codes ": no value '" ++ value.now ++ codes "' in attribute '"
         ++ attr.now ++ codes "'") }
 {
     let mut text = rule;

@@ -20,7 +20,7 @@ use Rattle.bz_attribute.specs.declared.done.Note.TheVariants.{NotAList}
 use Rattle.bz_attribute.proofs.LabelSets.{any_joined}
 use Rattle.bz_attribute.proofs.Locals.{has_first}
 use Rattle.bz_rule.specs.Add.{add}
-use Rattle.bz_rule.specs.AddByValue.{add_by_value, fresh, is_fresh, new_elements, with_added}
+use Rattle.bz_rule.specs.AddByValue.{add_by_value, fresh, new_elements, with_added}
 use Rattle.bz_rule.specs.Move.{arrivals, elements_of, put_in}
 use Rattle.bz_rule.proofs.Arguments.{rest_same}
 

@@ -14,7 +14,6 @@ use Rattle.bz_attribute.specs.Effects.{filtered, loses_all}
 use Rattle.bz_attribute.specs.RowPlaces.{IsFirstArgument, argument_parts}
 use Rattle.bz_attribute.specs.Lists.{edit_parts, is_attribute, parts, with_value, only_list}
 use Rattle.bz_attribute.specs.Rules.{value}
-use Rattle.bz_attribute.specs.ListWalk.{elements}
 use Rattle.bz_attribute.proofs.EditedAt.{segs_join}
 use Rattle.bz_attribute.proofs.ListElements.{IsKeyword, is_keyword}
 use Rattle.std.proofs.Math.Bool.{or-false}

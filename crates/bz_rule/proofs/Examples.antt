@@ -1,5 +1,5 @@
 -- The definitions of what commands do compute.
-use Rattle.std.specs.Prelude.{◌≡◌, List, [], ◌∷◌, ◌++◌, true, false, Option, Some, None, codes, length, refl}
+use Rattle.std.specs.Prelude.{◌≡◌, List, [], ◌∷◌, ◌++◌, true, false, Some, None, codes, length, refl}
 use Rattle.bz_token.specs.declared.token.Kind.TheVariants.{Identifier, Operator}
 use Rattle.bz_tree.specs.declared.tree.Class.TheVariants.{Rule as RuleClass}
 use Rattle.bz_tree.specs.declared.tree.GroupKind.TheVariants.{RuleCall}

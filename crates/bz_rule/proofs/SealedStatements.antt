@@ -11,7 +11,7 @@ use Rattle.bz_rule.specs.declared.commands.field.Field.{Field}
 use Rattle.bz_rule.specs.declared.commands.field.Field.TheVariants.{Label, ValueOf}
 use Rattle.bz_attribute.specs.Rules.{Rule, is_text, kind_text, name_in, rule_of, string_value, value}
 use Rattle.bz_attribute.specs.Texts.{home_text}
-use Rattle.bz_attribute.specs.Marks.{marks, marks_rule}
+use Rattle.bz_attribute.specs.Marks.{marks_rule}
 use Rattle.bz_attribute.specs.Effects.{holds_rule, nodes_of, with_args}
 use Rattle.bz_attribute.specs.Reports.{done, slot_done}
 use Rattle.bz_attribute.specs.private.RuleNodes.{nodes_after}

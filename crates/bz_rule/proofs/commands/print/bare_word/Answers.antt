@@ -1,4 +1,4 @@
-use Rattle.std.proofs.Common.{◌≡◌, ◌≤◌, ◌-◌, false, get_or, length, arith, rules, sym, ◌∙◌}
+use Rattle.std.proofs.Common.{◌≡◌, ◌≤◌, ◌-◌, get_or, length, arith, rules, sym, ◌∙◌}
 use Rattle.bz_rule.proofs.PrintedWords.{bare_got, bare_good}
 use Rattle.bz_rule.proofs.commands.print.bare_word.Goals as goal
 
