@@ -1,5 +1,5 @@
 -- What `remove` of an attribute makes of a rule by its text.
-use Rattle.std.proofs.Common.{◌≡◌, ◌≤◌, ℕ, List, [], ◌∷◌, ◌++◌, Bool, true, false, ◌||◌, cond, filter, length, not, refl, sym, ap, ◌∙◌, subst, arith}
+use Rattle.std.proofs.Common.{◌≡◌, ◌≤◌, ℕ, List, [], ◌∷◌, ◌++◌, Bool, true, false, cond, filter, length, not, refl, sym, ap, ◌∙◌, subst, arith}
 use Rattle.std.proofs.lemmas.Bool.{false≢true}
 use Rattle.std.specs.Prelude.{bytes_eq, codes, if◌then◌else◌, Option, None, Some, option_to_list}
 use Rattle.bz_token.specs.Common.{is_empty, map_or}
@@ -31,21 +31,21 @@ without_first attr = edit_first (is_named attr) (λ a. [])
 -- where none has the name, all stay
 none_goes : (attr : List ℕ) (args : List Segment) → length (filter (is_named attr) args) ≤ 0 → without attr args ≡ args
 none_goes attr [] few = refl
-none_goes attr (a ∷ args) few = by (is_named attr a) few
+none_goes attr (a ∷ args) few = by (none_goes attr args) (is_named attr a) few
   where
-    by : (b : Bool) → length (cond b (a ∷ filter (is_named attr) args) (filter (is_named attr) args)) ≤ 0 → cond (not b) (a ∷ without attr args) (without attr args) ≡ a ∷ args
-    by true few = absurd (omega (arith, few))
-    by false few = ap (λ (xs : List Segment). a ∷ xs) (none_goes attr args few)
+    by : (length (filter (is_named attr) args) ≤ 0 → without attr args ≡ args) → (b : Bool) → length (cond b (a ∷ filter (is_named attr) args) (filter (is_named attr) args)) ≤ 0 → cond (not b) (a ∷ without attr args) (without attr args) ≡ a ∷ args
+    by others true few = absurd (omega (arith, few))
+    by others false few = ap (λ (xs : List Segment). a ∷ xs) (others few)
 
 -- where one has it at most, the first goes
 first_goes : (attr : List ℕ) (args : List Segment) → length (filter (is_named attr) args) ≤ 1 → without attr args ≡ without_first attr args
 first_goes attr [] few = refl
-first_goes attr (a ∷ args) few = by (is_named attr a) few
+first_goes attr (a ∷ args) few = by (first_goes attr args) (is_named attr a) few
   where
-    by : (b : Bool) → length (cond b (a ∷ filter (is_named attr) args) (filter (is_named attr) args)) ≤ 1
+    by : (length (filter (is_named attr) args) ≤ 1 → without attr args ≡ without_first attr args) → (b : Bool) → length (cond b (a ∷ filter (is_named attr) args) (filter (is_named attr) args)) ≤ 1
         → cond (not b) (a ∷ without attr args) (without attr args) ≡ (if b then args else a ∷ without_first attr args)
-    by true few = none_goes attr args (omega (arith, few))
-    by false few = ap (λ (xs : List Segment). a ∷ xs) (first_goes attr args few)
+    by later true few = none_goes attr args (omega (arith, few))
+    by later false few = ap (λ (xs : List Segment). a ∷ xs) (later few)
 
 no_length : (lines : List ℕ) → is_empty lines ≡ true → length lines ≡ 0
 no_length [] none = refl

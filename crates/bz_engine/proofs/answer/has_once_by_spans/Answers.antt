@@ -10,4 +10,4 @@ returns-in-Some c = λ once line s on.
     let attr = c.args.attr.now in
     let found = c.args.found.now in
     let at = ap (position (λ name. bytes_eq name attr)) (sym c.names.ensures) ∙ sym c.position_of.ensures ∙ c.in-Some.is in
-    c.has_once.ensures once line c.args.script.max_depth names attr s found.chunk.chunk.now found.chunk.written.now (c.requires.spans c.if-not-noted.false line s on.read) at
+    c.has_once.ensures once line c.args.script.max_depth names attr s found.chunk.chunk.now found.chunk.written.now (c.requires.spans c.if-not-found.false line s on.read) at
