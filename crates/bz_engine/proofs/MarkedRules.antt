@@ -17,7 +17,8 @@ use Rattle.bz_passes.specs.Passes.{Pass}
 use Rattle.bz_passes.specs.declared.index.Key.TheVariants.{Name as Named}
 use Rattle.bz_passes.proofs.PassedBy.{unmarked_passed}
 use Rattle.bz_rule.specs.Commands.{Command}
-use Rattle.bz_engine.specs.Language.{meaning, changes, fails_on}
+use Rattle.bz_engine.specs.Failing.{changes, fails_on}
+use Rattle.bz_engine.specs.Language.{meaning}
 use Rattle.bz_engine.specs.Outcome.{Script}
 use Rattle.bz_engine.specs.declared.canonical.Found.{Found}
 use Rattle.bz_engine.specs.declared.marking.KnownRule.{KnownRule}

@@ -5,7 +5,8 @@ use Rattle.bz_tree.specs.Tree.{Statement}
 use Rattle.bz_label.specs.Labels.{Package, Target, Name, Pkg, All, Kind, Line}
 use Rattle.bz_attribute.specs.Rules.{Rule, kind_text, name_in, rule_of}
 use Rattle.bz_passes.specs.Exchange.{IsPassedBy}
-use Rattle.bz_engine.specs.Language.{meaning, changes, fails_on}
+use Rattle.bz_engine.specs.Failing.{changes, fails_on}
+use Rattle.bz_engine.specs.Language.{meaning}
 use Rattle.bz_engine.specs.Outcome.{Run}
 use Rattle.bz_engine.specs.declared.canonical.Found.{Found}
 use Rattle.bz_engine.specs.declared.marking.KnownRule.{KnownRule}
