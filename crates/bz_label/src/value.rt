@@ -1,10 +1,10 @@
 //! The value of a string literal, and the literal that is written for a value.
 
-ghost use Rattle.std.specs.Prelude.{◌≡◌, ◌==◌, ◌+◌, ◌<◌, ◌↔◌, ℕ, List, OnOk, IfOk, IfSome, IfNone, IsTrue, Some, string_bytes, ◌++◌, encode_utf8};
-ghost use Rattle.std.specs.List.{flat_map};
+ghost use Rattle.std.specs.Prelude.{◌≡◌, ◌==◌, ◌+◌, ◌<◌, ◌↔◌, ℕ, List, OnOk, IfOk, IfSome, IfNone, IsTrue, Some, not, string_bytes, ◌++◌, encode_utf8};
+ghost use Rattle.std.specs.List.{flat_map, list_all};
 ghost use Rattle.bz_label.specs.Values as spec;
 ghost use Rattle.bz_label.specs.Literals.{IsPlain, token_value};
-ghost use Rattle.bz_label.specs.private.ValueSteps.{is_value};
+ghost use Rattle.bz_label.specs.private.ValueSteps.{is_escaped, is_value};
 ghost use Rattle.bz_label.specs.private.ByteSteps.{inner_of};
 
 use crate::literal::{Literal, is_at_end, next_in, open, plain_value};
@@ -26,10 +26,34 @@ pub fn quote(alloc: Global, value: &str) -> Result<String, NoMemory>
 {
     let mut text = String::new(alloc);
     push_char(&mut text, '"')?;
-    for c in value.chars() {
-        push_written(&mut text, c)?;
-    }
+    push_value(&mut text, value)?;
     push_char(&mut text, '"').and(Ok(text))
+}
+
+// Most values are written as they are.
+fn push_value(text: &mut String, value: &str) -> Result<(), NoMemory>
+    ensures { OnOk result (string_bytes text.new ≡ string_bytes text.old ++ flat_map spec.written value.now) }
+{
+    if stands_as_it_is(value) {
+        return push_str(text, value);
+    }
+    for c in value.chars() {
+        push_written(text, c)?;
+    }
+    Ok(())
+}
+
+// No escape is written for a byte of it.
+fn stands_as_it_is(value: &str) -> bool
+    ensures { result ≡ list_all (λ b. not (is_escaped b)) value.now }
+{
+    value.as_bytes().iter().all(|b| !is_escaped(*b))
+}
+
+fn is_escaped(b: u8) -> bool
+    ensures { result ≡ is_escaped b }
+{
+    matches!(b, b'\\' | b'"' | b'\n' | b'\r' | b'\t')
 }
 
 fn push_written(text: &mut String, c: char) -> Result<(), NoMemory>

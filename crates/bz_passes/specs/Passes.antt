@@ -30,6 +30,11 @@ pub record Marked (S : Type 0) : Type 0 where
   pub mark : Bool
   pub slot : Slot S
 
+-- an execution: a command, and what it finds in a slot that is marked
+pub record Execution (S C : Type 0) : Type 0 where
+  pub command : C
+  pub found : Slot S
+
 module _ {S T C M : Type 0} (m : Meaning S T C M) where
   -- a slot with the mark of a target
   abbrev pub marked : T → Slot S → Marked S
@@ -51,23 +56,17 @@ module _ {S T C M : Type 0} (m : Meaning S T C M) where
   abbrev pub slots_after : List (Pass T C) → List (Slot S) → List (Slot S)
   slots_after ps slots = fold (λ left p. slots_after_pass p left) slots ps
 
--- an execution: a command, and what it finds in a slot that is marked
-pub record Execution (S C : Type 0) : Type 0 where
-  pub command : C
-  pub found : Slot S
-
-module _ {S T C M : Type 0} (m : Meaning S T C M) where
   -- the executions of a pass's commands on its slots: of each command in turn, slot by slot
   abbrev pub executions : List C → List (Marked S) → List (Execution S C)
   executions [] xs = []
   executions (c ∷ cs) xs = map (λ x. record { command = c; found = x.slot }) (filter (λ x. x.mark) xs)
-      ++ executions cs (map (executed m c) xs)
+      ++ executions cs (map (executed c) xs)
 
   -- the executions of the passes, one after another
   abbrev pub executions_of : List (Pass T C) → List (Slot S) → List (Execution S C)
   executions_of [] slots = []
   executions_of (p ∷ ps) slots =
-      executions p.commands (map (marked m p.target) slots) ++ executions_of ps (slots_after_pass m p slots)
+      executions p.commands (map (marked p.target) slots) ++ executions_of ps (slots_after_pass p slots)
 
   -- some execution leaves in its slot something else than it finds
   abbrev pub Changes : List (Pass T C) → List (Slot S) → Type 0
@@ -86,5 +85,5 @@ module _ {S T C M : Type 0} (m : Meaning S T C M) where
   log_of [] slots = []
   log_of (p ∷ ps) slots =
       (missing p.target (list_any (m.marks p.target) slots)
-      ++ said (executions p.commands (map (marked m p.target) slots)))
-      ++ log_of ps (slots_after_pass m p slots)
+      ++ said (executions p.commands (map (marked p.target) slots)))
+      ++ log_of ps (slots_after_pass p slots)

@@ -79,3 +79,7 @@ taken raw short bytes = option_map (λ b. (b, drop (first_len bytes) bytes)) (va
 abbrev pub opened_value : Bool → List ℕ → Option (List ℕ)
 opened_value raw [] = None
 opened_value raw (q ∷ bs) = if is_quote q then option_and_then (values raw) (inner_of (q ∷ bs)) else None
+
+-- a byte for which an escape is written
+abbrev pub is_escaped : ℕ → Bool
+is_escaped b = b == 92 || (b == 34 || (b == 10 || (b == 13 || b == 9)))
