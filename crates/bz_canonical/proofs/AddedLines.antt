@@ -39,7 +39,7 @@ use Rattle.bz_canonical.proofs.ListLines.{chosen, first_is, head_front}
 
 -- the argument
 
-news_segs : (news : List (List ℕ)) → segs_of (map string news) ≡ element_segs (map new_element news)
+pub news_segs : (news : List (List ℕ)) → segs_of (map string news) ≡ element_segs (map new_element news)
 news_segs [] = refl
 news_segs (v ∷ news) = ap (λ ss. seg [] (item (leaf String (new_element v).token) no_items) None ss) (news_segs news)
 
