@@ -81,20 +81,20 @@ prefix : (within : Option GroupKind) (before : List Item) (text : List ℕ)
     → is_prefix (edge within before) text ≡ (is_operator_among (codes "+" ∷ codes "-" ∷ codes "~" ∷ []) (leaf Operator text) && begins_operand before)
 prefix within before text = rw (awaits within before) (and_three (begins_operand before) (bytes_eq text (codes "+")) (bytes_eq text (codes "-")) (bytes_eq text (codes "~")))
 
-colon : (within : Option GroupKind) (text : List ℕ) → is_index_colon within text ≡ (is_operator_among (codes ":" ∷ []) (leaf Operator text) && map_or false is_index within)
+colon : (within : Option GroupKind) (text : List ℕ) → is_index_colon within text ≡ (bytes_eq text (codes ":") && map_or false is_index within)
 colon None text = sym (and-false _)
-colon (Some Index) text = sym (and-true _ ∙ or-false _)
+colon (Some Index) text = sym (and-true _)
 colon (Some _) text = sym (and-false _)
 
 -- the tests of an operator
-joins : (dot p a i : Bool) → old.no_space_after (if dot then Dotted else (if p || a || i then Joined else OperatorEdge)) ≡ ((dot || false) || p || a || i)
+joins : (dot p a i : Bool) → old.no_space_after (if dot then Dotted else (if p || a || i then Joined else OperatorEdge)) ≡ (dot || p || a || i)
 joins true p a i = refl
 joins false p a i = elim (p || a || i) as (λ b. old.no_space_after (if b then Joined else OperatorEdge) ≡ b) [ true ↦ refl | false ↦ refl ]
 
 pub holds : (within : Option GroupKind) (before : List Item) (x : Item) → old.no_space_after (edge_after within (edge within before) x) ≡ no_space_after within before x
 holds within before (leaf Operator text) =
     joins (bytes_eq text (codes ".")) (is_prefix (edge within before) text) (begins_argument within (edge within before) text) (is_index_colon within text)
-    ∙ (λ j. (bytes_eq text (codes ".") || false) || prefix within before text j || begins within before text j || colon within text j)
+    ∙ (λ j. bytes_eq text (codes ".") || prefix within before text j || begins within before text j || colon within text j)
 holds within before (leaf Keyword text) = refl
 holds within before (leaf _ text) = refl
 holds within before (group kind segs one_comma end) = refl
