@@ -1,10 +1,10 @@
 -- What `set` makes of an argument whose value is one list of strings.
-use Rattle.std.proofs.Common.{◌≡◌, ◌<◌, ℕ, ◌+◌, length, take, get_or, List, [], ◌∷◌, ◌++◌, Bool, true, false, ◌||◌, ◌&&◌, not, refl, sym, ap, ◌∙◌, append_assoc, append-nil, subst, bytes_eq, map, arith}
+use Rattle.std.proofs.Common.{◌≡◌, ◌<◌, ℕ, ◌+◌, ◌-◌, length, take, get_or, List, [], ◌∷◌, ◌++◌, Bool, true, false, ◌||◌, ◌&&◌, not, refl, sym, ap, ◌∙◌, append_assoc, append-nil, subst, bytes_eq, map, arith}
 use Rattle.std.proofs.lemmas.Bool.{false≢true}
 use Rattle.std.proofs.lemmas.List.{length-map, map-append, take_more}
 use Rattle.std.specs.Cmp.Lexicographic.{pointwise}
 use Rattle.std.specs.List.{list_any}
-use Rattle.std.specs.Prelude.{codes, is_some, nat_le, Option, None, Some, if◌then◌else◌}
+use Rattle.std.specs.Prelude.{codes, is_some, nat_le, Option, None, Some, Result, Ok, Err, IfOk, IsTrue, if◌then◌else◌}
 use Rattle.bz_token.specs.Common.{is_empty, map_or}
 use Rattle.bz_token.specs.declared.token.Kind.TheVariants.{Identifier, Operator, String}
 use Rattle.bz_tree.specs.declared.tree.GroupKind.TheVariants.{List as ListKind}
@@ -163,10 +163,11 @@ broken_by_count values = λ i. none_noted values i || nat_le 2 (length-map value
     none_noted [] = refl
     none_noted (v ∷ values) = none_noted values
 
-some_values : (values : List (List ℕ)) → is_empty values ≡ false → is_empty (map new_element values) ≡ false
-some_values [] some = some
+some_values : (values : List (List ℕ)) → 0 < length values → is_empty (map new_element values) ≡ false
+some_values [] some = absurd (omega (arith, some))
 some_values (v ∷ values) some = refl
 
-pub values_put : (values : List (List ℕ)) (list : PassedList) (old buffer after : List ℕ) → is_empty values ≡ false → list.start ≡ length old → list.passed.broken ≡ nat_le 2 (length values)
-    → buffer ≡ old ++ element_lines (respell String) (map new_element values) → EndsList list buffer after → PutsValues values list.end.now old after
-values_put values list old buffer after some start broken put ends = ends old (map new_element values) (sym start) (some_values values some) (broken ∙ sym (broken_by_count values)) put
+pub values_put : {E : Type 0} (values : List (List ℕ)) (list : PassedList) (old buffer after : List ℕ) (r : Result Bool E) → 0 < length values → list.start ≡ length old → list.passed.broken ≡ nat_le 2 (length values)
+    → buffer ≡ old ++ element_lines (respell String) (map new_element values) → IfOk r (λ ended. IsTrue ended → EndsList list buffer after) → IfOk r (λ put. IsTrue put → PutsValues values list.end.now old after)
+values_put values list old buffer after (Ok ended) some start broken put known = λ on. known on old (map new_element values) (sym start) (some_values values some) (broken ∙ sym (broken_by_count values)) put
+values_put values list old buffer after (Err e) some start broken put known = known
