@@ -1,6 +1,5 @@
 -- What `set` makes of an argument whose value is one list of strings.
 use Rattle.std.proofs.Common.{◌≡◌, ◌<◌, ℕ, ◌+◌, ◌-◌, length, take, get_or, List, [], ◌∷◌, ◌++◌, Bool, true, false, ◌||◌, ◌&&◌, not, refl, sym, ap, ◌∙◌, append_assoc, append-nil, subst, bytes_eq, map, arith}
-use Rattle.std.proofs.lemmas.Bool.{false≢true}
 use Rattle.std.proofs.lemmas.List.{length-map, map-append, take_more}
 use Rattle.std.specs.Cmp.Lexicographic.{pointwise}
 use Rattle.std.specs.List.{list_any}
@@ -12,13 +11,13 @@ use Rattle.bz_tree.specs.Tree.{leaf, group, Segment, segments}
 use Rattle.bz_label.specs.Values.{quoted, value_of}
 use Rattle.bz_layout.specs.Pieces.{bytes_of, indent, suffix_piece}
 use Rattle.bz_layout.specs.Respell.{respell}
-use Rattle.bz_attribute.specs.Effects.{argument, edit_first, has, string}
+use Rattle.bz_attribute.specs.Effects.{argument, edit_first, has}
 use Rattle.bz_attribute.specs.Lists.{only_list, with_value}
 use Rattle.bz_attribute.specs.Rules.{first_named, is_named, is_text, string_value, value}
 use Rattle.bz_rule.specs.Reports.{sets}
 use Rattle.bz_rule.specs.Set.{New, NewStrings, is_list_attribute, is_value, new_of, new_value, new_word, set, set_in}
 use Rattle.bz_rule.specs.declared.forms.AttributeValues.{AttributeValues}
-use Rattle.bz_canonical.specs.Canonical.{AreReadAlone, argument_lines}
+use Rattle.bz_canonical.specs.Canonical.{argument_lines}
 use Rattle.bz_canonical.specs.SetList.{IsSet, SetsInLines}
 use Rattle.bz_canonical.specs.declared.edited.EditedList.TheVariants.{Unchanged, Written}
 use Rattle.bz_canonical.specs.declared.edited.PassedList.{PassedList}

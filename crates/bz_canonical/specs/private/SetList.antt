@@ -1,6 +1,6 @@
 -- Lists of strings that are compared with values one by one, and lists of values that are written (this project's own rule), for
 -- private clauses.
-use Rattle.std.specs.Prelude.{◌≡◌, ◌<◌, ℕ, List, [], ◌∷◌, ◌++◌, Bool, true, false, if◌then◌else◌, Option, None, Some, map}
+use Rattle.std.specs.Prelude.{◌≡◌, ◌<◌, ℕ, List, ◌∷◌, ◌++◌, Bool, true, false, if◌then◌else◌, Option, None, Some, map}
 use Rattle.std.specs.Cmp.Lexicographic.{pointwise}
 use Rattle.bz_token.specs.Common.{is_empty, map_or}
 use Rattle.bz_label.specs.Values.{value_of}
