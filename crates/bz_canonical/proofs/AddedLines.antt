@@ -1,5 +1,5 @@
 -- What `add` makes of an argument whose value is one list of strings, and the argument that it adds.
-use Rattle.std.proofs.Common.{◌≡◌, ℕ, ◌+◌, length, List, [], ◌∷◌, ◌++◌, Bool, true, false, ◌||◌, refl, sym, ap, ◌∙◌, append_assoc, append-nil, subst, bytes_eq, map, arith}
+use Rattle.std.proofs.Common.{◌≡◌, ℕ, length, List, [], ◌∷◌, ◌++◌, Bool, true, false, ◌||◌, refl, sym, ap, ◌∙◌, append_assoc, append-nil, subst, bytes_eq, map, arith}
 use Rattle.std.proofs.lemmas.Bool.{false≢true, or_parts}
 use Rattle.std.specs.List.{list_any}
 use Rattle.std.specs.Prelude.{codes, nat_le, not, Option, None, Some, Result, Ok, Err, IfOk, IfSome, if◌then◌else◌}
@@ -39,7 +39,7 @@ use Rattle.bz_canonical.proofs.ListLines.{chosen, first_is, head_front}
 
 -- the argument
 
-news_segs : (news : List (List ℕ)) → segs_of (map string news) ≡ element_segs (map new_element news)
+pub news_segs : (news : List (List ℕ)) → segs_of (map string news) ≡ element_segs (map new_element news)
 news_segs [] = refl
 news_segs (v ∷ news) = ap (λ ss. seg [] (item (leaf String (new_element v).token) no_items) None ss) (news_segs news)
 

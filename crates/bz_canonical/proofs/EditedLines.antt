@@ -1,5 +1,5 @@
 -- The lines of an argument whose value is one list of strings, of which some go or become another.
-use Rattle.std.proofs.Common.{◌≡◌, ◌≤◌, ◌<◌, ℕ, suc, ◌+◌, ◌-◌, length, take, drop, List, [], ◌∷◌, ◌++◌, Bool, true, false, ◌||◌, ◌&&◌, not, refl, sym, ap, ◌∙◌, arith, append_assoc, append-nil, subst}
+use Rattle.std.proofs.Common.{◌≡◌, ◌≤◌, ℕ, suc, ◌+◌, ◌-◌, length, take, drop, List, [], ◌∷◌, ◌++◌, Bool, true, false, ◌||◌, ◌&&◌, not, refl, sym, ap, ◌∙◌, arith, append_assoc, append-nil}
 use Rattle.std.proofs.Math.Seq.{take-append_seam, drop-append_seam}
 use Rattle.std.proofs.lemmas.Bool.{false≢true}
 use Rattle.std.proofs.lemmas.Bool.Decides.{nat_tests}
@@ -20,10 +20,9 @@ use Rattle.bz_canonical.specs.Canonical.{argument_lines}
 use Rattle.bz_canonical.specs.declared.edited.ListEdit.{ListEdit}
 use Rattle.bz_canonical.specs.declared.edited.PassedList.{PassedList}
 use Rattle.bz_canonical.specs.private.Added.{IsListAlone, have_word, is_word, list_arg}
-use Rattle.bz_canonical.specs.private.Edited.{AreEdited, AreElementsEdited, EndsList, IsListEdited, IsWritten, Stays, edited, have_meant, is_new, left_args}
-use Rattle.bz_canonical.specs.private.Arguments.{IsHeadRead}
+use Rattle.bz_canonical.specs.private.Edited.{AreEdited, EndsList, IsListEdited, IsWritten, Stays, edited, have_meant, is_new, left_args}
 use Rattle.bz_canonical.specs.private.Pendings.{IsPending}
-use Rattle.bz_canonical.specs.private.Elements.{Element, IsLast, are_broken, element_line, element_lines, element_list, is_noted}
+use Rattle.bz_canonical.specs.private.Elements.{Element, are_broken, element_line, element_lines, element_list, is_noted}
 use Rattle.bz_canonical.proofs.ElementLists.{alone_written, closed, elements_read, or_yes, written_broken}
 use Rattle.bz_canonical.proofs.GroupSegments.{or_no}
 use Rattle.bz_canonical.proofs.ListLines.{head_front, list_alone}

@@ -29,6 +29,7 @@ pub mod NewValues
 pub mod AddedLines
 pub mod RemovedLines
 pub mod ReplacedLines
+pub mod SetLines
 pub mod CommentedLines
 pub mod SimpleBlocks
 pub mod SealedLines

@@ -3,6 +3,7 @@ pub mod Added
 pub mod Commented
 pub mod Removed
 pub mod Replaced
+pub mod SetList
 pub mod SealedArguments
 pub mod Spans
 pub mod SealedRules

@@ -13,4 +13,5 @@ pub mod Rules
 pub mod Added
 pub mod Edited
 pub mod NewValues
+pub mod SetList
 pub mod Noted

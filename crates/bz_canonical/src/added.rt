@@ -197,7 +197,7 @@ impl NewValues<'_, '_, '_> {
 
 /// Writes a new element on a line of its own.
 #[inline(always)]
-fn put_line(literal: &[u8], written: &mut Vec<u8>) -> Result<(), NoMemory>
+pub(crate) fn put_line(literal: &[u8], written: &mut Vec<u8>) -> Result<(), NoMemory>
     ensures { OnOk result (written.new.items ≡ written.old.items ++ (10 ∷ (indent 2 ++ (literal.now ++ 44 ∷ [])))) }
 {
     extend_from_slice(written, b"\n        ".as_slice())?;

@@ -32,6 +32,7 @@ mod rule;
 mod rule_chunk;
 mod sealed;
 mod segments;
+mod set_list;
 mod simple;
 mod spans;
 mod statement;
@@ -49,6 +50,7 @@ pub use place::{ArgumentPlace, argument_place, has_once};
 pub use removed::put_removed;
 pub use replaced::put_replaced;
 pub use sealed::SpannedRule;
+pub use set_list::put_set_list;
 pub use spans::ArgumentSpan;
 
 /// None: it is not known what would be written.

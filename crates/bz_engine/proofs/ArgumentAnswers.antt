@@ -10,6 +10,7 @@ use Rattle.bz_engine.specs.Progress.{text_following}
 use Rattle.bz_label.specs.declared.arguments.Attributes.TheVariants.{Named}
 use Rattle.bz_label.specs.declared.arguments.Commented.TheVariants.{Attribute}
 use Rattle.bz_label.specs.declared.arguments.Chosen.TheVariants.{Values}
+use Rattle.bz_label.specs.declared.arguments.Setting.TheVariants.{ToValues}
 use Rattle.bz_label.specs.Labels.{Package}
 use Rattle.bz_attribute.specs.declared.done.Done.{Done}
 use Rattle.bz_attribute.specs.Effects.{has, is_chosen, with_args}
@@ -29,8 +30,9 @@ use Rattle.bz_canonical.specs.Commented.{TakesComment, commented}
 use Rattle.bz_canonical.specs.Added.{AddsToLines, AreInLines}
 use Rattle.bz_canonical.specs.Removed.{RemovesFromLines}
 use Rattle.bz_canonical.specs.Replaced.{ReplacesInLines}
+use Rattle.bz_canonical.specs.SetList.{SetsInLines}
 use Rattle.bz_canonical.specs.Canonical.{AloneLines, AreReadAlone, Between, HasPlace, argument_lines, first_args, rule_args}
-use Rattle.bz_rule.specs.declared.command.Action.TheVariants.{Add, Comment, Remove, Replace}
+use Rattle.bz_rule.specs.declared.command.Action.TheVariants.{Add, Comment, Remove, Replace, Set}
 use Rattle.bz_rule.specs.Commands.{Command, after, args_after, args_done, done_of}
 use Rattle.bz_rule.specs.OneAttribute.{one_attribute}
 use Rattle.bz_rule.proofs.Lawfulness.{local}
@@ -120,6 +122,24 @@ pub replaces_in_list : {E : Type 0} (alone : AloneLines) (value : ReplacedValue)
 replaces_in_list alone value before after (Ok None) known = tt
 replaces_in_list alone value before after (Ok (Some edited)) known = replaces_listed alone value before after edited known
 replaces_in_list alone value before after (Err e) known = known
+
+-- a list that is set
+sets_listed : (alone : AloneLines) (new : AttributeValues) (before after : List ℕ) (edited : EditedList) → SetsInLines alone.depth alone.lines new before after edited
+    → EditsList (Set (ToValues new.attr.now new.values.now)) alone before after edited
+sets_listed alone new before after Unlisted set = λ args reads. ap (done None) (set args reads)
+sets_listed alone new before after Listed set = (
+  set.0,
+  set.1,
+  λ args reads.
+      let is = set.2 args reads in
+      record { told = ap (done None) is.sets_is; goes = no_lines _ _ is.lines_are; lines_are = is.lines_are },
+)
+
+pub sets_list : {E : Type 0} (alone : AloneLines) (new : AttributeValues) (before after : List ℕ) (r : Result (Option EditedList) E) → IfOk r (λ known. IfSome known (SetsInLines alone.depth alone.lines new before after))
+    → IfOk r (λ known. IfSome known (EditsList (Set (ToValues new.attr.now new.values.now)) alone before after))
+sets_list alone new before after (Ok None) known = tt
+sets_list alone new before after (Ok (Some edited)) known = sets_listed alone new before after edited known
+sets_list alone new before after (Err e) known = known
 
 -- a list from which a value goes
 removes_listed : (alone : AloneLines) (value : AttributeValues) (before after : List ℕ) (edited : EditedList) → RemovesFromLines alone value before after edited

@@ -6,7 +6,8 @@ ghost use Rattle.bz_canonical.specs.Added.{AreInLines};
 ghost use Rattle.bz_canonical.specs.Canonical.{between, read_alone};
 ghost use Rattle.bz_label.specs.declared.arguments.Attributes.TheVariants.{Named};
 ghost use Rattle.bz_label.specs.declared.arguments.Commented.TheVariants.{Attribute};
-ghost use Rattle.bz_rule.specs.declared.command.Action.TheVariants.{Add, Comment, Remove, Replace};
+ghost use Rattle.bz_label.specs.declared.arguments.Setting.TheVariants.{ToValues};
+ghost use Rattle.bz_rule.specs.declared.command.Action.TheVariants.{Add, Comment, Remove, Replace, Set};
 ghost use Rattle.bz_engine.specs.private.ArgumentEdits.{AddsArgument, EditsLines, EditsList, EditsPlace};
 ghost use Rattle.bz_token.specs.Common.{is_empty};
 ghost use Rattle.bz_label.specs.Labels.{Package};
@@ -15,10 +16,13 @@ use crate::edit::ScriptRun;
 use bz_attribute::Env;
 use bz_canonical::{
     ArgumentPlace, EditedList, lacks, put_added, put_new_list, put_removed, put_replaced,
+    put_set_list,
 };
 use bz_memory::{NoMemory, extend_from_slice};
 use bz_rule::commands::argument::put_argument;
-use bz_rule::forms::{AttributeValues, ReplacedValue, added_by, removed_by, replaced_by, set_by};
+use bz_rule::forms::{
+    AttributeValues, ReplacedValue, added_by, removed_by, replaced_by, set_by, values_set_by,
+};
 use bz_rule::{Command, Text};
 use std::alloc::Global;
 use std::slice::from_ref;
@@ -101,7 +105,7 @@ pub(crate) fn execute_on_lines<'s>(
 }
 
 /// What the command makes of the argument that has these lines, where it adds values to a list of strings, removes some,
-/// or replaces one. None: it may be another command, or another argument. Without `Written` nothing is said of the
+/// replaces one, or sets all. None: it may be another command, or another argument. Without `Written` nothing is said of the
 /// buffer's bytes.
 fn execute_on_list(
     script: ScriptRun<'_>,
@@ -117,6 +121,9 @@ fn execute_on_list(
     }
     if let Some(old) = removed_by(command) {
         return execute_remove(script, old, lines, written);
+    }
+    if let Some(new) = values_set_by(command) {
+        return execute_set(script, new, lines, written);
     }
     match replaced_by(command) {
         Some(replaced) => execute_replace(script, replaced, lines, written),
@@ -190,6 +197,23 @@ fn execute_replace(
         home: script.home,
     };
     put_replaced(env, lines, replaced, script.max_depth, written)
+}
+
+/// What `set` makes of the argument that has these lines. None: it is no list of strings that can be edited on its
+/// lines, or that is too much to do. Without `Written` nothing is said of the buffer's bytes.
+fn execute_set(
+    script: ScriptRun<'_>,
+    new: AttributeValues<'_>,
+    lines: &str,
+    written: &mut Vec<u8>,
+) -> Result<Option<EditedList>, NoMemory>
+    ensures { IfOk result (λ known. IfSome known (EditsList (Set (ToValues new.entry.attr.now new.entry.values.now))
+        (read_alone script.entry.max_depth script.entry.home.now lines.now) written.old.items written.new.items)) }
+{
+    if are_many(new.values, lines) {
+        return Ok(None);
+    }
+    put_set_list(script.alloc, lines, new, script.max_depth, written)
 }
 
 /// There are several values, and too many to compare each with each element of these lines.

@@ -5,7 +5,8 @@ ghost use Rattle.std.specs.Prelude.{◌≡◌, [], IfSome, Some, false};
 ghost use Rattle.bz_token.specs.Common.{is_empty};
 ghost use Rattle.bz_label.specs.declared.arguments.Attributes.TheVariants.{Named};
 ghost use Rattle.bz_label.specs.declared.arguments.Commented.TheVariants.{Attribute};
-ghost use Rattle.bz_rule.specs.declared.command.Action.TheVariants.{Add, Comment, Print, Remove, Rename, Replace};
+ghost use Rattle.bz_label.specs.declared.arguments.Setting.TheVariants.{ToValues};
+ghost use Rattle.bz_rule.specs.declared.command.Action.TheVariants.{Add, Comment, Print, Remove, Rename, Replace, Set};
 ghost use Rattle.bz_rule.specs.Forms as spec;
 
 use crate::command::{Action, Command};
@@ -161,6 +162,19 @@ pub fn added_by(command: &Command) -> Option<AttributeValues<'_>>
     ensures { IfSome result (λ new. command.now ≡ Add new.attr.now new.values.now) }
 {
     let Action::Add(attr, values) = &command.action else {
+        return None;
+    };
+    Some(AttributeValues {
+        attr: attr.as_str(),
+        values: values.as_slice(),
+    })
+}
+
+/// The values that the command sets an attribute to, whether that is there or not.
+pub fn values_set_by(command: &Command) -> Option<AttributeValues<'_>>
+    ensures { IfSome result (λ new. command.now ≡ Set (ToValues new.attr.now new.values.now)) }
+{
+    let Action::Set(Setting::ToValues(attr, values)) = &command.action else {
         return None;
     };
     Some(AttributeValues {

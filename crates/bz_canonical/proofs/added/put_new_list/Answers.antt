@@ -1,4 +1,4 @@
-use Rattle.std.proofs.Common.{◌≡◌, length, arith, ap, refl, sym, subst, ◌∙◌, false}
+use Rattle.std.proofs.Common.{◌≡◌, length, arith, ap, refl, subst}
 use Rattle.std.specs.Prelude.{IfSome, None}
 use Rattle.bz_canonical.specs.declared.added.NewValues.{NewValues}
 use Rattle.bz_canonical.specs.declared.edited.Passed.{Passed}

@@ -1,4 +1,4 @@
-use Rattle.std.proofs.Common.{◌∷◌, ◌∙◌, true, subst, sym}
+use Rattle.std.proofs.Common.{◌∷◌, true, subst}
 use Rattle.bz_canonical.specs.private.Arguments.{IsHeadRead}
 use Rattle.bz_canonical.proofs.AddedElements.{sought_more, sought_none}
 use Rattle.bz_canonical.proofs.ListLines.{sought_lines}

@@ -1,4 +1,4 @@
-use Rattle.std.proofs.Common.{◌≡◌, ◌<◌, length, arith, tests}
+use Rattle.std.proofs.Common.{◌<◌, length, arith, tests}
 use Rattle.bz_canonical.proofs.RemovedLines.{removes_read, some_of}
 use Rattle.bz_canonical.proofs.removed.put_removed.Goals as goal
 

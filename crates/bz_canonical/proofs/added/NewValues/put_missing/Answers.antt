@@ -1,4 +1,4 @@
-use Rattle.std.proofs.Common.{◌≡◌, ◌∙◌, arith, ap}
+use Rattle.std.proofs.Common.{◌∙◌, arith, ap}
 use Rattle.bz_label.specs.Values.{quoted}
 use Rattle.bz_canonical.proofs.NewValues.{line_put, put_kept, put_none, put_one}
 use Rattle.bz_canonical.proofs.added.NewValues.put_missing.Goals as goal
