@@ -188,39 +188,39 @@ fn is_some_answerable(passes: &[Pass<Target, Command>]) -> bool {
 
 fn finding_of(passes: &[Pass<Target, Command>]) -> Finding {
     if !is_some_answerable(passes) {
-        return Finding::Never;
-    }
-    let count = count_nameless(passes);
-    if count.by_kind == 0 {
+        Finding::Never
+    } else if !are_some_by_kind(passes) {
         Finding::ByName
-    } else if count.all <= FEW {
+    } else if are_few_nameless(passes) {
         Finding::ByKind
     } else {
         Finding::Never
     }
 }
 
-/// How many targets ask for no name.
-#[derive(Clone, Copy)]
-struct Nameless {
-    all: usize,
-    /// Those that mark some rules alone, by their kind or line.
-    by_kind: usize,
-}
-
-fn count_nameless(passes: &[Pass<Target, Command>]) -> Nameless {
-    let mut count = Nameless { all: 0, by_kind: 0 };
+/// Some target marks rules by their kind or their line.
+fn are_some_by_kind(passes: &[Pass<Target, Command>]) -> bool {
     for pass in passes {
         match pass.target.marked() {
-            Marked::Name(_) => {}
-            Marked::All => count.all += 1,
-            _ => {
-                count.all += 1;
-                count.by_kind += 1;
-            }
+            Marked::Name(_) | Marked::All => {}
+            Marked::Pkg | Marked::Kind(_) | Marked::Line(_) => return true,
         }
     }
-    count
+    false
+}
+
+/// Few targets ask for no name.
+fn are_few_nameless(passes: &[Pass<Target, Command>]) -> bool {
+    let mut left = FEW;
+    for pass in passes {
+        if !matches!(pass.target.marked(), Marked::Name(_)) {
+            let Some(less) = left.checked_sub(1) else {
+                return false;
+            };
+            left = less;
+        }
+    }
+    true
 }
 
 /// Law: each command of a script is one that can be read. The body looks at each, since of that the prover knows it; it
