@@ -17,7 +17,7 @@ use Rattle.bz_attribute.specs.Lists.{with_value, parts, edit_parts, edit_piece, 
 use Rattle.bz_attribute.specs.declared.done.Note.{Note}
 use Rattle.bz_attribute.specs.declared.done.Note.TheVariants.{NoAttribute, NotAList}
 
--- some argument has this name
+-- some argument has this name: `first_named` (`Rules`) finds one
 abbrev pub has : List ℕ → List Segment → Bool
 has attr args = list_any (is_named attr) args
 

@@ -214,7 +214,7 @@ pub(crate) fn put_list_edited<'t>(
     Ok(Some(list))
 }
 
-/// The same of the elements here, after what is pending.
+/// Writes the elements that stand here, as the command leaves them, after what is pending.
 fn put_elements_edited<'t>(
     home: &Package,
     begun: Pending<'t>,

@@ -1,6 +1,7 @@
 -- The bytes of an input that were read and not yet taken, and the chunk that they begin with (this project's
 -- own rule). What a chunk is, `Chunks` of bz_token says.
 -- Begin with `IsUndecided` and `IsTooLong`.
+-- `run` does not reach `IsReadOn`, `IsFewAfter` and `AreNeeded`.
 use Rattle.std.specs.Prelude.{◌≡◌, ℕ, ◌+◌, ◌*◌, ◌<◌, ◌≤◌, Bool, false, ◌||◌, IsTrue, List, [], ◌∷◌, ◌++◌, length, take, drop, ⊤}
 use Rattle.std.specs.List.{concat}
 use Rattle.bz_token.specs.Chunks.{chunks}

@@ -2,6 +2,7 @@
 -- rule). One piece stands for one read; an empty one is the end of the input. A read gives at most 8,192 bytes
 -- (`PIECE` of `src/input.rt`); definitions name this number as it is.
 -- Begin with `ends`, `MayFollow`, `NoneEnds` and `Rises`.
+-- `run` reaches these four alone.
 use Rattle.std.specs.Prelude.{◌≡◌, ℕ, ◌+◌, ◌<◌, ◌≤◌, ◌-◌, ◌^◌, Bool, false, IsTrue, List, [], ◌∷◌, ◌++◌, Option, None, Some, ⊤, true, length}
 use Rattle.bz_token.specs.Common.{is_empty, last_of, map_or}
 use Rattle.std.specs.List.{concat, AllByRecursion}

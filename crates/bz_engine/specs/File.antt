@@ -18,6 +18,8 @@ abbrev pub not_utf8 : ℕ → ℕ → List ℕ → SyntaxFault
 not_utf8 first n bytes = NotUtf8 (line_at first (take n bytes)) (column_at (take n bytes))
 
 -- The answer for a chunk, which is read by itself: a statement, nothing where it is blank, or its first fault.
+-- That a chunk is not UTF-8 comes before all its other faults, wherever they stand; these have the order of
+-- `IsFaultIn`.
 -- At most `depth` brackets may be open at once, and its lines count from `first` (as in `Chunk`, which takes
 -- these two the other way round). That memory was refused is no answer, and the fault of no file. Two faults say
 -- it: the last line leaves out `Parse (OutOfMemory ..)`, and no text has `Parse (Lex (OutOfMemory ..))`, since

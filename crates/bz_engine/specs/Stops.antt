@@ -43,7 +43,7 @@ AllFit max_statement cs = AllByRecursion (λ chunk. length chunk ≤ max_stateme
 
 -- A run came to this end after reads that gave these pieces. The chunks `front`, none of them too long, are
 -- done and do not end the run. They have these statements, and the bytes `left` of the pieces stand after them. The
--- end follows from them and from the chunk that ends the run (`last`): no other counts.
+-- end follows from them and from the chunk that ends the run, if one does (`last`): no other counts.
 pub record HasEndedAt (run : Run) (max_statement : ℕ) (pieces : List (List ℕ)) (end : End) : Type 0 where
   pub front : List (List ℕ)
   pub statements : List Statement

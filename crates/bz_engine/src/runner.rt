@@ -28,6 +28,8 @@ pub fn run<S: Source, W: Sink>(
     source: &mut S,
     sink: &mut W,
 ) -> Result<Report, RunFault>
+    // A read gives at most 8,192 bytes, so the input has at most 2^63, and the number of a line stays below 2^64. The
+    // program calls this with at most 2^32 reads (`Job::run`).
     requires { options.max_reads ≤ 2 ^ 50 }
     // For every file that begins with what the source gave (once its end was met, for that file), the bytes that were
     // appended and the report are the outcome of the passes over its statements. Each read was needed, and no chunk

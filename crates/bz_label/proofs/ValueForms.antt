@@ -8,7 +8,7 @@ use Rattle.bz_token.specs.declared.scan_string.Opening.{Opening}
 use Rattle.bz_token.specs.declared.scan_string.Quotes.{Quotes}
 use Rattle.bz_token.specs.Common.{first_of, map_or}
 use Rattle.bz_token.specs.Groups.{grouped_from}
-use Rattle.bz_token.specs.Strings.{is_byte, is_quote, are_two, opens_after, opening, quote_count, escape_takes, inside, units, but_last, has_closing, has_break, is_one_string, is_string}
+use Rattle.bz_token.specs.Strings.{is_byte, is_quote, are_two, opens_after, opening, quote_count, escape_takes, inside, units, but_last, has_closing, has_break, has_no_earlier_end, is_string}
 use Rattle.bz_token.proofs.CutStrings.{grouped_joins, grouped_apart}
 use Rattle.bz_token.proofs.Openings.{opens_r, opens_rb, opens_b, opens_br, opens_plain}
 use Rattle.bz_token.proofs.Units.{FirstUnit, byte, feed, return_feed, alone, return_alone, return_other, other, first_unit}
@@ -407,12 +407,12 @@ inside_is raw q l (suc n) (b ∷ bs) quote fits = elim (cases_Bool (starts_with 
 
 -- What stands after the opening quotes decides.
 abbrev opened_at : Opening → List ℕ → Option (List ℕ)
-opened_at o text = if has_closing o.quotes (inside o text) && is_one_string o text then value_after (take o.prefix text) (content o text) else None
+opened_at o text = if has_closing o.quotes (inside o text) && has_no_earlier_end o text then value_after (take o.prefix text) (content o text) else None
 
 at_opening : (text : List ℕ) (o : Opening) → opening text ≡ Some o → value_of text ≡ opened_at o text
 at_opening text o opens =
     ap (option_and_then (λ o. if is_string text then value_after (take o.prefix text) (content o text) else None)) opens
-    ∙ ap (λ t. if t then value_after (take o.prefix text) (content o text) else None) (ap (map_or false (λ o. has_closing o.quotes (inside o text) && is_one_string o text)) opens)
+    ∙ ap (λ t. if t then value_after (take o.prefix text) (content o text) else None) (ap (map_or false (λ o. has_closing o.quotes (inside o text) && has_no_earlier_end o text)) opens)
 
 chosen : (raw c : Bool) (row : ℕ) (us : List (List ℕ)) → (if c then values raw (take (length us - row) us) else None) ≡ worth raw (before_closing c row us)
 chosen raw true row us = refl
@@ -475,8 +475,8 @@ prefixed n text [] opens none = unopened text opens
 prefixed n text (q ∷ qs) opens none = elim (cases_Bool (is_quote q)) [
   | inl quote ↦
       let o : Opening = record { prefix = n; quotes = of q (are_two q qs) } in
-      at_opening text o (opens ∙ rw quote refl) ∙ ap (λ (v : Option (List ℕ)). if has_closing o.quotes (inside o text) && is_one_string o text then v else None) (none (content o text))
-      ∙ both (has_closing o.quotes (inside o text) && is_one_string o text)
+      at_opening text o (opens ∙ rw quote refl) ∙ ap (λ (v : Option (List ℕ)). if has_closing o.quotes (inside o text) && has_no_earlier_end o text then v else None) (none (content o text))
+      ∙ both (has_closing o.quotes (inside o text) && has_no_earlier_end o text)
   | inr never ↦ unopened text (opens ∙ rw never refl)
 ]
   where

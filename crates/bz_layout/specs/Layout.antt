@@ -100,6 +100,6 @@ layout s = comment_lines s.before ++ (if is_comment s.class then [] else stateme
 abbrev pub layout_text : Statement → List ℕ
 layout_text s = bytes_of (layout s)
 
--- the nodes on one line, without comments
+-- the nodes with no group broken, without comments (a newline within a string stays)
 abbrev pub flat_text : Option GroupKind → List Item → List ℕ
 flat_text within xs = bytes_of (items_pieces Flat 0 within Closed [] (items_of xs))

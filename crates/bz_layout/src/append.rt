@@ -13,7 +13,7 @@ const NEW_LINE: &str = "\n                ";
 
 const LAST_CUT: usize = 4;
 
-// The same with room for two bytes.
+// A newline with the longest indent that is cut, and room for two bytes.
 const ITEM: &str = "\n                  ";
 
 /// Bytes or a string, at whose end texts are put.
@@ -24,7 +24,7 @@ pub(crate) trait Append {
     fn put(&mut self, text: &str) -> Result<(), NoMemory>
         ensures { Puts result (bytes self.old) (bytes self.new) text.now };
 
-    /// The same of a text that is mostly a byte.
+    /// Appends a text that is mostly one byte. `Err`: memory was refused.
     fn put_short(&mut self, text: &str) -> Result<(), NoMemory>
         ensures { Puts result (bytes self.old) (bytes self.new) text.now }
     {

@@ -5,11 +5,12 @@ ghost use Rattle.bz_layout.specs.Broken.{breaks_by_count};
 
 use bz_tree::GroupKind;
 
-/// Whether groups may be broken over lines. Definitions alone name it: a walk that has no marks breaks none.
+/// Whether groups may be broken over lines. Definitions alone name it.
 #[derive(Clone, Copy)]
 pub enum Style {
-    /// All on one line, comments left out.
+    /// No group is broken, and comments are left out.
     Flat,
+    /// Groups are broken where `is_broken` says so.
     Broken,
 }
 

@@ -62,11 +62,14 @@ module _ {S T C M : Type 0} (m : Meaning S T C M) where
   executions (c ∷ cs) xs = map (λ x. record { command = c; found = x.slot }) (filter (λ x. x.mark) xs)
       ++ executions cs (map (executed c) xs)
 
+  -- the executions of one pass
+  abbrev pub executions_in : Pass T C → List (Slot S) → List (Execution S C)
+  executions_in p slots = executions p.commands (map (marked p.target) slots)
+
   -- the executions of the passes, one after another
   abbrev pub executions_of : List (Pass T C) → List (Slot S) → List (Execution S C)
   executions_of [] slots = []
-  executions_of (p ∷ ps) slots =
-      executions p.commands (map (marked p.target) slots) ++ executions_of ps (slots_after_pass p slots)
+  executions_of (p ∷ ps) slots = executions_in p slots ++ executions_of ps (slots_after_pass p slots)
 
   -- some execution leaves in its slot something else than it finds
   abbrev pub Changes : List (Pass T C) → List (Slot S) → Type 0
@@ -84,6 +87,5 @@ module _ {S T C M : Type 0} (m : Meaning S T C M) where
   abbrev pub log_of : List (Pass T C) → List (Slot S) → List M
   log_of [] slots = []
   log_of (p ∷ ps) slots =
-      (missing p.target (list_any (m.marks p.target) slots)
-      ++ said (executions p.commands (map (marked p.target) slots)))
+      (missing p.target (list_any (m.marks p.target) slots) ++ said (executions_in p slots))
       ++ log_of ps (slots_after_pass p slots)

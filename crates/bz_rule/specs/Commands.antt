@@ -4,7 +4,9 @@
 -- `run` reaches `Command`, `is_print`, and what stands from `args_after` to `printed_line`.
 -- In no stop, since `run` does not reach what they are for: bz_label `Words` (a text as words), `Names`
 -- (identifiers and kinds), `Arguments` (what arguments keep that were read, a test of their words). They are
--- for how commands are read (`command_of`, `is_command`) and for `command_passes`.
+-- for how commands are read (`command_of`, `is_command`) and for `command_passes`. In no stop either:
+-- `Reports` of bz_attribute and of bz_rule (what a command tells that it changed), for `args_changed`,
+-- `args_done` and `done_of`.
 use Rattle.std.specs.Prelude.{◌≡◌, ℕ, ◌==◌, List, [], ◌∷◌, Bool, true, false, ◌&&◌, ◌||◌, not, if◌then◌else◌, Option, Some, None, Result, Ok, Err, map, length, codes, bytes_eq, option_map, option_and_then}
 use Rattle.std.specs.List.{list_all, list_any}
 use Rattle.std.specs.Str.{is_utf8}

@@ -18,7 +18,7 @@ use Rattle.bz_attribute.specs.declared.done.Note.{Note}
 use Rattle.bz_attribute.specs.declared.done.Note.TheVariants.{Missing}
 use Rattle.bz_token.specs.Common.{is_empty, is_one_of, map_or}
 
--- not empty, and with no quote, no space and no byte below it
+-- not empty, with no double quote (34) and no byte up to the space (32)
 abbrev pub is_plain : List ℕ → Bool
 is_plain v = not (is_empty v) && not (list_any (λ b. b == 34 || nat_le b 32) v)
 
@@ -32,7 +32,7 @@ words_text ss =
     codes "[" ++ join_with_byte 32 (map (λ s. map_or [] word_form (string_value s.nodes)) ss) ++ codes "]"
 
 -- a value that is no string: one list of strings with values as words in brackets, anything else as its text
--- on one line (as it is laid out within the call of a rule)
+-- with no group broken (as it is laid out within the call of a rule; a newline within a string stays)
 abbrev pub other_text : List Item → List ℕ
 other_text nodes =
     let flat = flat_text (Some RuleCall) nodes in
@@ -74,7 +74,7 @@ module _ (home : Package) (s : Statement) (r : Rule) where
   missing [] = None
   missing (f ∷ fields) = if is_some (field_text f) then missing fields else Some (Missing (field_name f))
 
--- how the words of the command are read, and which attributes it mentions
+-- How the words of the command are read, and which attributes it mentions: `run` does not reach what follows.
 
 -- the fields that buildozer has and this program leaves out
 abbrev pub is_left_out_field : List ℕ → Bool

@@ -81,7 +81,7 @@ set attr words args =
     if has attr args then edit_first (is_named attr) (λ a. set_in new a ∷ []) args
     else args ++ argument attr (new_value new) ∷ []
 
--- `set_if_absent <attr> <v>..`: what `set` does where the attribute is absent
+-- `set_if_absent <attr> <v>..`: what `set` does where the attribute is absent (`first_named` is `None` there)
 abbrev pub set_if_absent : List ℕ → List (List ℕ) → List Segment → List Segment
 set_if_absent attr words args = if has attr args then args
     else args ++ argument attr (new_value (new_of attr words None)) ∷ []

@@ -5,7 +5,7 @@ use Rattle.std.specs.List.{list_any, starts_with}
 use Rattle.std.proofs.lemmas.Bool.{cases_Bool, or_cases, eqb-false, ne_eqb}
 use Rattle.bz_token.specs.declared.scan_string.Quotes.{Quotes}
 use Rattle.bz_token.specs.Common.{map_or}
-use Rattle.bz_token.specs.Strings.{is_byte, is_quote, are_two, opens_after, escape_takes, units, but_last, inside, has_closing, has_break, is_one_string}
+use Rattle.bz_token.specs.Strings.{is_byte, is_quote, are_two, opens_after, escape_takes, units, but_last, inside, has_closing, has_break, has_no_earlier_end}
 use Rattle.bz_token.specs.Pieces.{is_quoted, is_broken_off}
 use Rattle.bz_token.specs.private.StringPieces.{stops_short, is_short_string, breaks_short, three_in_a_row, is_long_string, is_closed_inside}
 use Rattle.bz_token.proofs.CutStrings.{but_last_cons, grouped_apart}
@@ -130,8 +130,8 @@ in_one q bs quote one no_long =
 
 in_three : (q : ℕ) (cs : List ℕ) → is_quote q ≡ true → AtQuote q (q ∷ q ∷ cs)
 in_three q cs quote = (
-  ap (map_or false (λ o. is_one_string o text)) opened ∙ ap not (ended_long q (but_last (units cs))) ∙ sym (ap₂ (λ s t. s || t) short_none long_is),
-  ap (map_or false (λ o. is_one_string o text && has_break o.quotes (inside o text))) opened ∙ and_false (not (has_closing (long q) (but_last (units cs)) || has_break (long q) (but_last (units cs))))
+  ap (map_or false (λ o. has_no_earlier_end o text)) opened ∙ ap not (ended_long q (but_last (units cs))) ∙ sym (ap₂ (λ s t. s || t) short_none long_is),
+  ap (map_or false (λ o. has_no_earlier_end o text && has_break o.quotes (inside o text))) opened ∙ and_false (not (has_closing (long q) (but_last (units cs)) || has_break (long q) (but_last (units cs))))
       ∙ sym (ap (λ s. s && list_any (is_byte 10) (units (q ∷ q ∷ cs))) short_none),
 )
   where

@@ -35,7 +35,8 @@ is_newline b = b == 10
 abbrev pub is_one_of : List (List ℕ) → List ℕ → Bool
 is_one_of texts text = list_any (bytes_eq text) texts
 
--- f of the value of an option, or `none` where it has no value
+-- f of the value of an option, or `none` where it has no value (`option_map_or` of the kit, with arguments in
+-- another order)
 abbrev pub map_or : {A B : Type 0} → B → (A → B) → Option A → B
 map_or none f None = none
 map_or none f (Some x) = f x

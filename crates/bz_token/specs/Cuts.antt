@@ -1,6 +1,7 @@
 -- Where a chunk ends; and what of it a `Cutter` answers, the code that takes a file line by line
 -- (`src/cutter.rt`; this project's own rule).
 -- Begin with `EndsBefore`.
+-- `run` reaches `EndsBefore` alone.
 use Rattle.std.specs.Prelude.{◌≡◌, ◌<◌, ◌++◌, length, ℕ, List, [], ◌∷◌, Bool, true, false, not, ◌&&◌}
 use Rattle.bz_token.specs.declared.cutter.block.Opener.{Opener}
 use Rattle.bz_token.specs.declared.cutter.Cut.{Cut}

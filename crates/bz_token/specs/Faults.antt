@@ -1,6 +1,7 @@
 -- The first lexical fault of a text, and its place: what stands after the gaps and tokens that could be read
 -- (this project's own rule).
 -- Begin with `IsFirstFault`.
+-- `run` does not reach `IsFault` and `HasFault`.
 use Rattle.std.specs.Prelude.{◌≡◌, ℕ, List, [], ◌++◌, true, false, ◌==◌, if◌then◌else◌, Option, Some, None, is_some}
 use Rattle.std.specs.Char.{is_ascii_digit}
 use Rattle.bz_token.specs.declared.fault.LexFault.{LexFault}

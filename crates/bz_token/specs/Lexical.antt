@@ -2,12 +2,12 @@
 -- and which of them count at a place. Own to this project: letters are those of ASCII, words that are only
 -- reserved are identifiers, a decimal number may begin with 0.
 -- Begin with `IsToken`.
-use Rattle.std.specs.Prelude.{ℕ, ◌≡◌, List, [], ◌∷◌, ◌++◌, length, Bool, true, false, not, ◌&&◌, ◌||◌, ◌==◌, nat_le, codes, bytes_eq, Some, None}
+use Rattle.std.specs.Prelude.{ℕ, ◌≡◌, List, [], ◌∷◌, ◌++◌, length, Bool, true, false, not, ◌&&◌, ◌||◌, ◌==◌, nat_le, codes, Some, None}
 use Rattle.std.specs.List.{list_all, prefix_len}
 use Rattle.std.specs.Char.{is_ascii_digit, is_ascii_hexdigit, is_ascii_alphabetic}
 use Rattle.bz_token.specs.declared.token.Kind.{Kind}
 use Rattle.bz_token.specs.declared.token.Kind.TheVariants.{Identifier, Keyword, Integer, String, Operator, Newline, Comment, Kept}
-use Rattle.bz_token.specs.Strings.{opening, is_string}
+use Rattle.bz_token.specs.Strings.{is_byte, opening, is_string}
 use Rattle.bz_token.specs.Pieces.{is_blank}
 use Rattle.bz_token.specs.Pieces as pieces
 use Rattle.bz_token.specs.Common.{begins, is_empty, is_one_of, map_or}
@@ -83,7 +83,7 @@ is_text Keyword text = is_keyword text
 is_text Integer text = is_number text
 is_text String text = is_string text
 is_text Operator text = is_operator_text text
-is_text Newline text = bytes_eq text (10 ∷ [])
+is_text Newline text = is_byte 10 text
 is_text Comment text = is_comment text
 is_text Kept text = false
 

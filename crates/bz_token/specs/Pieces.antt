@@ -4,16 +4,16 @@
 use Rattle.std.specs.Prelude.{ℕ, List, [], ◌∷◌, Bool, true, false, not, ◌&&◌, ◌||◌, ◌==◌, bytes_eq}
 use Rattle.std.specs.List.{list_any}
 use Rattle.bz_token.specs.Common.{begins, is_newline, map_or}
-use Rattle.bz_token.specs.Strings.{opens_after, inside, has_break, is_one_string}
+use Rattle.bz_token.specs.Strings.{opens_after, inside, has_break, has_no_earlier_end}
 
 -- a string without its prefix: closed, broken off, or open to the end of the text
 abbrev pub is_quoted : List ℕ → Bool
-is_quoted text = map_or false (λ o. is_one_string o text) (opens_after 0 text)
+is_quoted text = map_or false (λ o. has_no_earlier_end o text) (opens_after 0 text)
 
 -- a string without its prefix that ends with the newline that breaks it off
 abbrev pub is_broken_off : List ℕ → Bool
 is_broken_off text =
-    map_or false (λ o. is_one_string o text && has_break o.quotes (inside o text)) (opens_after 0 text)
+    map_or false (λ o. has_no_earlier_end o text && has_break o.quotes (inside o text)) (opens_after 0 text)
 
 -- a number sign (35) and what follows it on its line, white space at its end too (as a token it ends before
 -- that: `is_comment` of `Lexical`)

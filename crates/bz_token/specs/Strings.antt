@@ -76,11 +76,11 @@ but_last (u ∷ v ∷ us) = u ∷ but_last (v ∷ us)
 but_last _ = []
 
 -- nothing ends the string before its text ends: at that end it is closed, broken off or still open
-abbrev pub is_one_string : Opening → List ℕ → Bool
-is_one_string o text =
+abbrev pub has_no_earlier_end : Opening → List ℕ → Bool
+has_no_earlier_end o text =
     let before = but_last (inside o text) in not (has_closing o.quotes before || has_break o.quotes before)
 
 -- one whole literal
 abbrev pub is_string : List ℕ → Bool
 is_string text =
-    map_or false (λ o. has_closing o.quotes (inside o text) && is_one_string o text) (opening text)
+    map_or false (λ o. has_closing o.quotes (inside o text) && has_no_earlier_end o text) (opening text)

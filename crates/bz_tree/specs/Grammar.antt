@@ -42,7 +42,8 @@ pub data Form : Type 0 where
   -- a token of this kind, and one that has one of these texts
   any : Kind → Form
   one_of : Kind → List (List ℕ) → Form
-  -- a bracket, by the form of its segments; a segment, by that of its nodes
+  -- a bracket, by the form of its segments; a segment, by that of its nodes (an index or a comprehension has
+  -- one segment, in which commas are nodes: `is_one` of `Kinds`)
   bracket : GroupKind → Form → Form
   segment : Form → Form
   -- what the production of this nonterminal asks for
@@ -123,7 +124,8 @@ production Subscript =
     the Test or maybe (the Test) then sign (codes ":") then maybe (the Test)
     then maybe (sign (codes ":") then maybe (the Test))
 
--- What a form is asked of is a list of parts: nodes of a segment, or segments of a bracket.
+-- What a form is asked of is a list of parts: nodes of a segment, or segments of a bracket. A segment is what
+-- stands between commas, but in an index or a comprehension all that stands in the bracket.
 pub data Part : Type 0 where
   node : Item → Part
   between_commas : Items → Part

@@ -95,7 +95,7 @@ start_of tokens = map_or 0 (λ t. t.line) (option_or (first_token tokens) (first
 abbrev pub end_of : List Placed → ℕ
 end_of tokens = map_or 0 end_line (option_or (last_token tokens) (last_seen tokens))
 
--- a segment of these tokens as a statement
+-- a segment of these tokens as a statement: its three parts, and the class and the lines
 abbrev pub statement_with : List Placed → Segment → Statement
 statement_with tokens s = record {
   before = s.before;

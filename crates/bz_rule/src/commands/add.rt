@@ -85,7 +85,7 @@ fn write_missing<'s>(
     Ok(())
 }
 
-// The same for a few: each is compared with each element and with the values before it. No set is made.
+// The elements for few values: each is compared with each element and with the values before it, without a set.
 fn write_few_missing(
     env: Env<'_>,
     values: &[Text],

@@ -4,7 +4,7 @@ use Rattle.bz_token.specs.declared.scan_string.Escape.{Escape}
 use Rattle.bz_token.specs.declared.scan_string.Escape.TheVariants.{Unescaped, AfterBackslash, AfterReturn}
 use Rattle.bz_token.specs.declared.scan_string.Quotes.{Quotes}
 use Rattle.bz_token.specs.declared.scan_string.Opening.{Opening}
-use Rattle.bz_token.specs.Strings.{quote_count, has_closing, inside, is_one_string}
+use Rattle.bz_token.specs.Strings.{quote_count, has_closing, inside, has_no_earlier_end}
 use Rattle.bz_token.specs.Common.{begins, is_empty, map_or}
 
 -- the letters `r`, `b`, `rb` and `br` that stand here
@@ -18,7 +18,7 @@ abbrev pub opening_length : Opening → ℕ
 opening_length o = o.prefix + quote_count o.quotes.long
 
 abbrev pub is_closed : Option Opening → List ℕ → Bool
-is_closed opened text = map_or false (λ o. has_closing o.quotes (inside o text) && is_one_string o text) opened
+is_closed opened text = map_or false (λ o. has_closing o.quotes (inside o text) && has_no_earlier_end o text) opened
 
 -- a backslash takes the byte after it along, and a newline after that where it is a carriage return
 abbrev pub is_escaped : Escape → ℕ → Bool

@@ -45,7 +45,7 @@ pub(crate) enum Stage {
     Wants(Goal, bool),
     /// What may stand after an operand.
     Has(Goal, bool),
-    /// The same, directly after a number.
+    /// What may stand directly after a number.
     HasNumber(Goal, bool),
     /// The name after a dot.
     Names(Goal, bool),
@@ -61,7 +61,7 @@ pub(crate) enum Stage {
     Loads,
     /// A string of a load.
     Text,
-    /// The same, or a name for it.
+    /// A string of a load, or a name for it.
     LoadArgument,
     /// The `=` after that name.
     Renames,

@@ -92,7 +92,7 @@ pub(crate) fn row_of_text<'a>(
     let mut walk = RowWalk::new(bump, first_room(text), text.as_bytes())?;
     let mut first = None;
     let mut last = None;
-    // The same with comments, as long as there is nothing else.
+    // The first and the last comment, as long as there is no other token.
     let mut top = None;
     let mut bottom = None;
     while !reader.is_at_end() {
