@@ -42,5 +42,6 @@ pub mod RuleParts
 pub mod AskedLines
 pub mod Sealing
 pub mod AskedRules
+pub mod ListedArguments
 pub mod FoundRules
 pub mod RuleKinds

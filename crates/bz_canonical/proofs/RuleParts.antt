@@ -1,5 +1,5 @@
 -- The parts of a rule with sealed arguments, and the places of its arguments.
-use Rattle.std.proofs.Common.{◌≡◌, ◌<◌, ◌-◌, ℕ, ◌+◌, List, [], ◌∷◌, ◌++◌, Bool, length, map, drop, take, get_or, ap, sym, ◌∙◌, arith, subst, append_assoc, append-nil}
+use Rattle.std.proofs.Common.{◌≡◌, ◌<◌, ◌-◌, ℕ, ◌+◌, List, [], ◌∷◌, ◌++◌, Bool, true, refl, length, map, drop, take, get_or, ap, sym, ◌∙◌, arith, subst, append_assoc, append-nil}
 use Rattle.std.specs.Prelude.{codes}
 use Rattle.std.proofs.Math.Seq.{drop-append_seam}
 use Rattle.std.proofs.lemmas.List.{drop-drop, drop_more, length-append, take_rest}
@@ -7,8 +7,8 @@ use Rattle.bz_layout.specs.Pieces.{indent}
 use Rattle.bz_tree.specs.Tree.{Segment, segs_of}
 use Rattle.bz_tree.specs.Rows.{RowPart, above, beside_part, parts_of, segs_parts}
 use Rattle.bz_canonical.specs.Canonical.{argument_lines}
-use Rattle.bz_canonical.specs.SealedRules.{back_parts, front_parts, last_end, name_line, sealed_args, sealed_rule}
-use Rattle.bz_canonical.specs.Spans.{AreSpans, IsSpanned, NamedRule, back_text, front_text, name_argument, statement_of}
+use Rattle.bz_canonical.specs.SealedRules.{back_parts, front_parts, last_end, name_line, sealed_args, sealed_rule, shown}
+use Rattle.bz_canonical.specs.Spans.{AreSpans, IsSpanned, NamedRule, back_text, front_text, kept, name_argument, statement_of}
 use Rattle.bz_canonical.specs.declared.spans.ArgumentSpan.{ArgumentSpan}
 use Rattle.bz_canonical.proofs.CutTexts.{rest_at}
 use Rattle.bz_canonical.proofs.ArgumentLines.{lines_append}
@@ -81,3 +81,24 @@ headed names r stands written spans d some is = by stands (get_or spans 0 d) (dr
 pub headed_cut : (names : List (List ℕ)) (r : NamedRule) (stands : List (List ℕ)) (written : List ℕ) (spans : List ArgumentSpan) (d : ArgumentSpan) → 0 < length spans → IsSpanned names r stands written spans
     → IsHeaded names r written (get_or spans 0 d) (take (length spans - 1) (drop 1 spans))
 headed_cut names r stands written spans d some is = subst (λ ss. IsHeaded names r written (get_or spans 0 d) ss) (sym (take_rest spans 1)) (headed names r stands written spans d some is)
+
+-- where all stay, none is sealed
+pub all_stay : (names : List (List ℕ)) (from start : ℕ) (args : List Segment) (stands : List (List ℕ)) (spans : List ArgumentSpan) → AreSpans names from start args stands spans
+    → (kept (shown true spans) args ≡ args) × (sealed_args (shown true spans) args ≡ args)
+all_stay names from start [] [] [] are = (refl, refl)
+all_stay names from start [] [] (s ∷ ss) are = absurd are
+all_stay names from start [] (l ∷ ls) ss are = absurd are
+all_stay names from start (a ∷ args) [] ss are = absurd are
+all_stay names from start (a ∷ args) (l ∷ ls) [] are = absurd are
+all_stay names from start (a ∷ args) (l ∷ ls) (s ∷ []) are =
+    let more = all_stay names s.to s.end args ls [] are.1 in
+    (ap (λ (xs : List Segment). a ∷ xs) more.0, ap (λ (xs : List Segment). a ∷ xs) more.1)
+all_stay names from start (a ∷ args) (l ∷ ls) (s ∷ t ∷ ss) are =
+    let more = all_stay names s.to s.end args ls (t ∷ ss) are.1 in
+    (ap (λ (xs : List Segment). a ∷ xs) more.0, ap (λ (xs : List Segment). a ∷ xs) more.1)
+
+pub kept_all : (names : List (List ℕ)) (from start : ℕ) (args : List Segment) (stands : List (List ℕ)) (spans : List ArgumentSpan) (all : Bool) → AreSpans names from start args stands spans → all ≡ true
+    → kept (shown all spans) args ≡ sealed_args (shown all spans) args
+kept_all names from start args stands spans all are is =
+    let stay = all_stay names from start args stands spans are in
+    rw is (stay.0 ∙ sym stay.1)

@@ -1,5 +1,5 @@
 -- A rule some of whose arguments are sealed.
-use Rattle.std.proofs.Common.{◌≡◌, ℕ, suc, ◌+◌, List, [], ◌∷◌, ◌++◌, Bool, true, false, drop, get_or, length, refl, subst, ap, sym, ◌∙◌, append_assoc, append-nil, bytes_eq, if◌then◌else◌, ◌<◌, arith}
+use Rattle.std.proofs.Common.{◌≡◌, ◌==◌, ℕ, suc, ◌+◌, List, [], ◌∷◌, ◌++◌, Bool, true, false, drop, get_or, length, refl, subst, ap, sym, ◌∙◌, append_assoc, append-nil, bytes_eq, if◌then◌else◌, ◌<◌, arith}
 use Rattle.std.specs.Prelude.{Some, is_some, nat_le, ◌&&◌, ◌||◌}
 use Rattle.std.specs.List.{list_any, position_from}
 use Rattle.std.proofs.lemmas.Iterator.Adapters.{position_from-zero}
@@ -20,12 +20,12 @@ use Rattle.bz_attribute.proofs.Views.{segments_of}
 use Rattle.bz_rule.specs.Sealed.{AreSealed, IsSealed, StandsFor, is_among}
 use Rattle.bz_rule.specs.Sealed.AreSealed.{all_done, same, sealed as sealed_more}
 use Rattle.bz_canonical.specs.Canonical.{argument_lines}
-use Rattle.bz_canonical.specs.SealedRules.{are_alike, are_asked, as_comment, count_sealed, ends_run, inner_text, sealed, sealed_after, sealed_args, sealed_from, sealed_rule}
+use Rattle.bz_canonical.specs.SealedRules.{are_alike, are_asked, as_comment, count_sealed, ends_run, inner_text, sealed, sealed_after, sealed_args, sealed_from, sealed_rule, are_shown, shown}
 use Rattle.bz_canonical.specs.Spans.{AreSpans, IsSpan, IsSpanned, NamedRule, is_asked, front_text, name_argument, statement_of}
 use Rattle.bz_canonical.specs.declared.spans.ArgumentSpan.{ArgumentSpan}
 use Rattle.bz_canonical.proofs.ArgumentLines.{lines_append}
 use Rattle.bz_canonical.proofs.ArgumentParts.{inner_is}
-use Rattle.bz_canonical.proofs.RuleParts.{first_span}
+use Rattle.bz_canonical.proofs.RuleParts.{all_stay, first_span, headed}
 use Rattle.bz_canonical.proofs.SealedRuns.{AreAbove, Waits, comment_above, goes_on, more_wait, none_waits, nothing_waits}
 use Rattle.bz_canonical.proofs.SingleStrings.{bytes_same}
 
@@ -146,3 +146,37 @@ rule_sealed names r stands written spans d some is = record {
     by (l ∷ ls) are =
         let none : 0 + count_sealed (are_asked (drop 1 spans)) ≡ count_sealed (are_asked (drop 1 spans)) = omega arith in
         same (name_argument r.name) (counted none (are_sealed names (get_or spans 0 d).to (get_or spans 0 d).end [] r.args ls (drop 1 spans) refl (nothing_waits (are_asked (drop 1 spans))) are.1))
+
+-- all stay, or those that are asked for
+
+trues_none : (spans : List ArgumentSpan) → count_sealed (shown true spans) ≡ 0
+trues_none [] = refl
+trues_none (s ∷ ss) = trues_none ss
+
+-- never is one alone sealed
+pub never_one : (spans : List ArgumentSpan) → count_sealed (are_shown spans) ≡ 1 → ⊥
+never_one spans = by (count_sealed (are_asked spans) == 1) refl
+  where
+    by : (all : Bool) → (count_sealed (are_asked spans) == 1) ≡ all → count_sealed (shown all spans) ≡ 1 → ⊥
+    by true is one = omega (arith, trues_none spans, one)
+    by false is one = false≢true (sym is ∙ ap (λ (n : ℕ). n == 1) one)
+
+all_same : (names : List (List ℕ)) (args : List Segment) → AreSealed Alike names 0 args args
+all_same names [] = all_done
+all_same names (a ∷ args) = same a (all_same names args)
+
+pub rule_shown : (names : List (List ℕ)) (r : NamedRule) (stands : List (List ℕ)) (written : List ℕ) (spans : List ArgumentSpan) (d : ArgumentSpan) → 0 < length spans → IsSpanned names r stands written spans
+    → IsSealed (λ run t. are_alike run t ≡ true) names (count_sealed (are_shown (drop 1 spans))) (statement_of r) (statement_of (sealed_rule (are_shown (drop 1 spans)) r))
+rule_shown names r stands written spans d some is = by (count_sealed (are_asked (drop 1 spans)) == 1)
+  where
+    by : (all : Bool) → IsSealed (λ run t. are_alike run t ≡ true) names (count_sealed (shown all (drop 1 spans))) (statement_of r) (statement_of (sealed_rule (shown all (drop 1 spans)) r))
+    by false = rule_sealed names r stands written spans d some is
+    by true = let at = headed names r stands written spans d some is in record {
+      rule = record { kind = leaf Identifier r.kind ∷ []; args = name_argument r.name ∷ r.args; one_comma = false; end = r.end };
+      args = name_argument r.name ∷ sealed_args (shown true (drop 1 spans)) r.args;
+      read = ap (λ (all : List Segment). Some (record { kind = leaf Identifier r.kind ∷ []; args = all; one_comma = false; end = r.end })) (segments_of (name_argument r.name ∷ r.args));
+      read_sealed = ap (λ (all : List Segment). Some (record { kind = leaf Identifier r.kind ∷ []; args = all; one_comma = false; end = r.end })) (segments_of (name_argument r.name ∷ sealed_args (shown true (drop 1 spans)) r.args));
+      are_sealed = same (name_argument r.name) (counted (sym (trues_none (drop 1 spans)))
+          (subst (λ (xs : List Segment). AreSealed Alike names 0 r.args xs) (sym (all_stay names _ _ r.args at.stands (drop 1 spans) at.are).1) (all_same names r.args)));
+      rest = refl;
+    }

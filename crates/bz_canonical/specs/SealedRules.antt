@@ -1,5 +1,5 @@
 -- The parts of a rule of which some arguments are sealed.
-use Rattle.std.specs.Prelude.{bytes_eq, zero, ◌-◌, ℕ, suc, List, [], ◌∷◌, ◌++◌, codes, flat_map, length, map, nat_le, take, drop, Bool, true, false, ◌&&◌, ◌||◌, if◌then◌else◌, Option}
+use Rattle.std.specs.Prelude.{bytes_eq, ◌==◌, zero, ◌-◌, ℕ, suc, List, [], ◌∷◌, ◌++◌, codes, flat_map, length, map, nat_le, take, drop, Bool, true, false, ◌&&◌, ◌||◌, if◌then◌else◌, Option}
 use Rattle.bz_token.specs.declared.token.Kind.TheVariants.{Identifier}
 use Rattle.bz_tree.specs.declared.tree.GroupKind.TheVariants.{RuleCall}
 use Rattle.bz_tree.specs.Rows.{RowPart, a_token, above, beside_part, closing, opening, segs_parts}
@@ -56,6 +56,10 @@ sealed_args asked args = sealed_from [] asked args
 abbrev pub are_asked : List ArgumentSpan → List Bool
 are_asked spans = map is_asked spans
 
+-- those that are asked for, or all
+abbrev pub shown : Bool → List ArgumentSpan → List Bool
+shown all spans = map (λ span. all || is_asked span) spans
+
 -- what stands before the arguments of a rule
 abbrev pub front_parts : List (List ℕ) → List ℕ → List RowPart
 front_parts notes kind = map above notes ++ (a_token Identifier kind ∷ opening RuleCall ∷ [])
@@ -89,6 +93,10 @@ are_alike run t = bytes_eq (argument_lines run) (argument_lines (t ∷ [])) && (
 abbrev pub count_sealed : List Bool → ℕ
 count_sealed [] = zero
 count_sealed (b ∷ asked) = if b then count_sealed asked else suc (count_sealed asked)
+
+-- The arguments of a rule that stay: those that are asked for, and all where one alone is not, since that might be laid out in place.
+abbrev pub are_shown : List ArgumentSpan → List Bool
+are_shown spans = shown (count_sealed (are_asked spans) == 1) spans
 
 -- the parts of the small rule
 abbrev pub small_parts : List Segment → List RowPart

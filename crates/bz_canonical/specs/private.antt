@@ -12,6 +12,7 @@ pub mod Arguments
 pub mod Rules
 pub mod Added
 pub mod Edited
+pub mod Listed
 pub mod NewValues
 pub mod SetList
 pub mod Noted

@@ -1,21 +1,25 @@
 //! The row of a rule that was found in a text, of which the arguments that are not asked for are sealed.
 
-ghost use Rattle.std.specs.Prelude.{◌≡◌, ◌≢◌, ◌++◌, ℕ, List, drop, map, IfOk, IfSome};
+ghost use Rattle.std.specs.Prelude.{◌≡◌, ◌++◌, ℕ, List, drop, map, IfOk, IfSome};
 ghost use Rattle.std.specs.List.{concat};
 ghost use Rattle.bz_tree.specs.Rows.{IsRowOf, part_view};
 ghost use Rattle.bz_tree.specs.Tree.{Segment};
 ghost use Rattle.bz_canonical.specs.Canonical.{AreReadAlone};
-ghost use Rattle.bz_canonical.specs.SealedRules.{are_asked, count_sealed, sealed_rule, small_parts};
+ghost use Rattle.bz_canonical.specs.SealedRules.{are_asked, are_shown, sealed_rule, shown, small_parts};
 ghost use Rattle.bz_canonical.specs.Spans.{AreSpans, IsSpannedIn, NamedRule, kept, statement_of};
 
 use crate::asked::{asked_parts, put_asked_rule, read_asked_rule, sealed_count};
 use crate::comments::after_comments_above;
+use crate::listed::put_lists;
 use crate::sealed::{SpannedRule, begins_with, between, sealed_row};
 use crate::spans::ArgumentSpan;
 use bumpalo::Bump;
-use bz_memory::NoMemory;
+use bz_memory::{NoMemory, with_capacity};
 use bz_tree::Row;
 use std::alloc::Global;
+
+// Room for the parts of the lists of most rules.
+const ROOM: usize = 40;
 
 /// A rule that was found in a text.
 #[derive(Clone, Copy)]
@@ -81,31 +85,32 @@ fn read_asked<'a>(
     read_asked_rule(room.alloc, room.bump, small.as_str(), room.max_depth)
 }
 
-/// The row of a rule, of which the arguments after the name are sealed that are not asked for: two at least, or none.
+/// The row of a rule, of which the arguments after the name are sealed that are not asked for, if they are not one alone.
 /// None: it is to be read whole.
 pub fn seal<'a>(
     room: Room<'a>,
     found: FoundRule<'a>,
     small: &'a mut String,
 ) -> Result<Option<Row<'a>>, NoMemory>
-    ensures row { IfOk result (λ known. IfSome known (λ row. (names : List (List ℕ)) (r : NamedRule)
+    ensures { IfOk result (λ known. IfSome known (λ row. (names : List (List ℕ)) (r : NamedRule)
         (stands : List (List ℕ)) → IsSpannedIn room.entry.max_depth names r stands found.entry.chunk.now
         found.entry.rule.written.now found.entry.rule.spans.now → r.first_line ≡ found.entry.start
         → r.last_line ≡ found.entry.end
-        → IsRowOf (statement_of (sealed_rule (are_asked (drop 1 found.entry.rule.spans.now)) r)) row)) }
-    ensures count { IfOk result (λ known. IfSome known (λ row.
-        count_sealed (are_asked (drop 1 found.entry.rule.spans.now)) ≢ 1)) }
+        → IsRowOf (statement_of (sealed_rule (are_shown (drop 1 found.entry.rule.spans.now)) r)) row)) }
 {
     let [_, spans @ ..] = found.rule.spans else {
         return Ok(None);
     };
     let sealed = sealed_count(spans);
     if sealed == 1 {
-        return Ok(None);
+        return row_of_lists(room, found, true);
     }
     // Often none is asked for but the name.
     if sealed == spans.len() {
-        return sealed_row(room.bump, found.rule, &[], found.start, found.end);
+        return sealed_row(room.bump, found, false, &[]);
+    }
+    if let Some(row) = row_of_lists(room, found, false)? {
+        return Ok(Some(row));
     }
     let Some(read) = read_asked(room, found.chunk, spans, small)? else {
         return Ok(None);
@@ -113,5 +118,28 @@ pub fn seal<'a>(
     let Some(asked) = asked_parts(&read.parts) else {
         return Ok(None);
     };
-    sealed_row(room.bump, found.rule, asked, found.start, found.end)
+    sealed_row(room.bump, found, false, asked)
+}
+
+/// The row of a rule, of which the arguments after the name are sealed that are not asked for, or none if `all` are to be
+/// seen. None: the value of one that is seen is no list of strings, or it has a comment.
+fn row_of_lists<'a>(
+    room: Room<'a>,
+    found: FoundRule<'a>,
+    all: bool,
+) -> Result<Option<Row<'a>>, NoMemory>
+    ensures { IfOk result (λ known. IfSome known (λ row. (names : List (List ℕ)) (r : NamedRule)
+        (stands : List (List ℕ)) → IsSpannedIn room.entry.max_depth names r stands found.entry.chunk.now
+        found.entry.rule.written.now found.entry.rule.spans.now → r.first_line ≡ found.entry.start
+        → r.last_line ≡ found.entry.end
+        → IsRowOf (statement_of (sealed_rule (shown all (drop 1 found.entry.rule.spans.now)) r)) row)) }
+{
+    let [_, spans @ ..] = found.rule.spans else {
+        return Ok(None);
+    };
+    let mut lists = with_capacity(room.bump, ROOM)?;
+    if !put_lists(found.chunk, spans, all, room.max_depth, &mut lists)? {
+        return Ok(None);
+    }
+    sealed_row(room.bump, found, all, &lists)
 }

@@ -17,7 +17,7 @@ use bz_rule::forms::AttributeValues;
 use bz_token::check_utf8;
 
 // The argument is in two brackets, its own and the rule's.
-const BRACKETS: u8 = 2;
+pub(crate) const BRACKETS: u8 = 2;
 
 /// The value of the argument that has these lines is one list of strings, none of which equals one of the values
 /// (`execute_on_list` of bz_engine asks, for `remove` and `replace`). False: it may be so or not.

@@ -22,6 +22,7 @@ mod found_value;
 mod front;
 mod group;
 pub mod laws;
+mod listed;
 mod lists;
 mod load;
 mod named_rule;

@@ -9,10 +9,11 @@ ghost use Rattle.bz_tree.specs.Tree.{Segment, segs_of};
 ghost use Rattle.bz_layout.specs.Pieces.{bytes_of, indent, suffix_piece};
 ghost use Rattle.bz_layout_laws.specs.Legible.{AreComments};
 ghost use Rattle.bz_canonical.specs.Canonical.{argument_lines};
-ghost use Rattle.bz_canonical.specs.SealedRules.{IsLevel, are_asked, as_comment, back_parts, between, comment_rows, ends_run, front_parts, last_end, name_line, sealed_after, sealed_args, sealed_rule};
+ghost use Rattle.bz_canonical.specs.SealedRules.{IsLevel, are_asked, as_comment, back_parts, between, comment_rows, ends_run, front_parts, last_end, name_line, sealed_after, sealed_args, sealed_rule, shown};
 ghost use Rattle.bz_canonical.specs.Spans.{AreSpans, IsSpan, IsSpanned, NamedRule, back_text, front_text, is_asked, kept, name_argument, statement_of};
 ghost use Rattle.bz_token.specs.Common.{begins};
 
+use crate::found::FoundRule;
 use crate::spans::ArgumentSpan;
 use bumpalo::Bump;
 use bz_attribute::first_argument;
@@ -343,10 +344,11 @@ fn end_of(from: usize, spans: &[ArgumentSpan]) -> usize
     end
 }
 
-/// Reads the parts of a rule, of which the arguments after the name are sealed that are not asked for. Those that are
-/// asked for have these parts, one after another. False: it is no such rule.
+/// Reads the parts of a rule, of which the arguments after the name are sealed that are not asked for, or none if `all`
+/// stay. Those that stay have these parts, one after another. False: it is no such rule.
 pub(crate) fn put_rule<'a>(
     rule: SpannedRule<'a>,
+    all: bool,
     asked: &[Part<'a>],
     parts: &mut Parts<'a>,
 ) -> Result<bool, NoMemory>
@@ -354,9 +356,9 @@ pub(crate) fn put_rule<'a>(
         → (names : List (List ℕ)) (r : NamedRule) (stands : List (List ℕ))
         → IsSpanned names r stands rule.entry.written.now rule.entry.spans.now
         → map part_view asked.now
-        ≡ segs_parts (segs_of (kept (are_asked (drop 1 rule.entry.spans.now)) r.args))
+        ≡ segs_parts (segs_of (kept (shown all (drop 1 rule.entry.spans.now)) r.args))
         → map part_view parts.new.items ≡ map part_view parts.old.items
-        ++ parts_of (statement_of (sealed_rule (are_asked (drop 1 rule.entry.spans.now)) r))) }
+        ++ parts_of (statement_of (sealed_rule (shown all (drop 1 rule.entry.spans.now)) r))) }
 {
     let written = rule.written;
     let [name, spans @ ..] = rule.spans else {
@@ -365,7 +367,9 @@ pub(crate) fn put_rule<'a>(
     if !put_head(written, *name, parts)? {
         return Ok(false);
     }
-    if !put_arguments(SpannedRule { written, spans }, name.end, asked, parts)? {
+    if all {
+        extend_from_slice(parts, asked)?;
+    } else if !put_arguments(SpannedRule { written, spans }, name.end, asked, parts)? {
         return Ok(false);
     }
     let Some((_, back)) = written.split_at_checked(end_of(name.end, spans)) else {
@@ -399,30 +403,29 @@ fn put_head<'a>(
     put_name(line, parts)
 }
 
-/// The row of such a rule, on these lines. None: it is no such rule.
+/// The row of such a rule. None: it is no such rule.
 pub(crate) fn sealed_row<'a>(
     bump: &'a Bump,
-    rule: SpannedRule<'a>,
+    found: FoundRule<'a>,
+    all: bool,
     asked: &[Part<'a>],
-    start: u64,
-    end: u64,
 ) -> Result<Option<Row<'a>>, NoMemory>
     ensures { IfOk result (λ known. IfSome known
         (λ row. (names : List (List ℕ)) (r : NamedRule) (stands : List (List ℕ))
-        → IsSpanned names r stands rule.entry.written.now rule.entry.spans.now
+        → IsSpanned names r stands found.entry.rule.written.now found.entry.rule.spans.now
         → map part_view asked.now
-        ≡ segs_parts (segs_of (kept (are_asked (drop 1 rule.entry.spans.now)) r.args))
-        → r.first_line ≡ start → r.last_line ≡ end
-        → IsRowOf (statement_of (sealed_rule (are_asked (drop 1 rule.entry.spans.now)) r)) row)) }
+        ≡ segs_parts (segs_of (kept (shown all (drop 1 found.entry.rule.spans.now)) r.args))
+        → r.first_line ≡ found.entry.start → r.last_line ≡ found.entry.end
+        → IsRowOf (statement_of (sealed_rule (shown all (drop 1 found.entry.rule.spans.now)) r)) row)) }
 {
     let mut parts = with_room_for(bump, asked, ROOM)?;
-    if !put_rule(rule, asked, &mut parts)? {
+    if !put_rule(found.rule, all, asked, &mut parts)? {
         return Ok(None);
     }
     Ok(Some(Row {
         parts,
         class: Class::Rule,
-        start,
-        end,
+        start: found.start,
+        end: found.end,
     }))
 }

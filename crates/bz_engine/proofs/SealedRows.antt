@@ -11,11 +11,11 @@ use Rattle.bz_attribute.specs.Rules.{Rule, name_in, rule_of}
 use Rattle.bz_attribute.specs.declared.head.Head.{Head}
 use Rattle.bz_attribute.proofs.Views.{segments_of}
 use Rattle.bz_canonical.specs.Canonical.{rule_name}
-use Rattle.bz_canonical.specs.SealedRules.{are_asked, count_sealed, sealed_rule}
+use Rattle.bz_canonical.specs.SealedRules.{are_shown, count_sealed, sealed_rule}
 use Rattle.bz_canonical.specs.Spans.{AreSpans, HasSpans, IsSpannedIn, NamedRule, front_text, name_argument, statement_of}
 use Rattle.bz_canonical.specs.declared.spans.ArgumentSpan.{ArgumentSpan}
 use Rattle.bz_canonical.proofs.RuleKinds.{front_cut}
-use Rattle.bz_canonical.proofs.Sealing.{rule_sealed}
+use Rattle.bz_canonical.proofs.Sealing.{never_one, rule_shown}
 use Rattle.bz_rule.specs.Sealed.{IsSealed}
 use Rattle.bz_engine.specs.Outcome.{Script}
 use Rattle.bz_engine.specs.declared.canonical.Found.{Found}
@@ -54,7 +54,7 @@ rule_head r head kind name start end = record {
 -- what `seal` ensures of a row
 abbrev pub IsMade : ℕ → HeadedRule → Row → Type 0
 IsMade depth noted row = (names : List (List ℕ)) (r : NamedRule) (stands : List (List ℕ)) → IsSpannedIn depth names r stands noted.rule.chunk.now noted.rule.rule.written.now noted.rule.rule.spans.now
-    → r.first_line ≡ noted.rule.start → r.last_line ≡ noted.rule.end → IsRowOf (statement_of (sealed_rule (are_asked (drop 1 noted.rule.rule.spans.now)) r)) row
+    → r.first_line ≡ noted.rule.start → r.last_line ≡ noted.rule.end → IsRowOf (statement_of (sealed_rule (are_shown (drop 1 noted.rule.rule.spans.now)) r)) row
 
 -- What is known of the statement of a found rule: its head, and the same rule with sealed arguments, which has this head.
 pub record HasSealed (depth : ℕ) (names : List (List ℕ)) (s : Statement) (noted : HeadedRule) : Type 0 where
@@ -62,7 +62,7 @@ pub record HasSealed (depth : ℕ) (names : List (List ℕ)) (s : Statement) (no
   pub sealed : Statement
   pub sealed_head : IsHeadOf noted.head sealed
   pub row_is : (row : Row) → IsMade depth noted row → IsRowOf sealed row
-  pub is : count_sealed (are_asked (drop 1 noted.rule.rule.spans.now)) ≢ 1 → IsSealedRule names s sealed
+  pub is : IsSealedRule names s sealed
 
 no_span : ArgumentSpan
 no_span = record { from = 0; to = 0; start = 0; comma = 0; end = 0; named = None }
@@ -74,7 +74,7 @@ has_sealed line depth names s found noted has at is =
     let chunk : List ℕ = noted.rule.chunk.now in
     let written : List ℕ = noted.rule.rule.written.now in
     let spans : List ArgumentSpan = noted.rule.rule.spans.now in
-    let asked : List Bool = are_asked (drop 1 spans) in
+    let shown : List Bool = are_shown (drop 1 spans) in
     let F : List ℕ = front_text r.notes r.kind in
     let spanned : IsSpannedIn depth names r has.stands chunk written spans =
     subst (λ (t : List ArgumentSpan). IsSpannedIn depth names r has.stands chunk written t) (sym is.spans_are)
@@ -91,13 +91,13 @@ has_sealed line depth names s found noted has at is =
     let end : noted.head.end ≡ r.last_line = is.ends_on ∙ sym last in
     record {
       head = subst (IsHeadOf noted.head) (sym has.statement_is) (rule_head r noted.head kind name start end);
-      sealed = statement_of (sealed_rule asked r);
-      sealed_head = rule_head (sealed_rule asked r) noted.head kind name start end;
+      sealed = statement_of (sealed_rule shown r);
+      sealed_head = rule_head (sealed_rule shown r) noted.head kind name start end;
       row_is = λ row made. made names r has.stands spanned first last;
-      is = λ count. record {
-        count = count_sealed asked;
-        enough = none_or_more (count_sealed asked) count;
-        sealed = subst (λ (z : Statement). IsSealed HasLinesOf names (count_sealed asked) z (statement_of (sealed_rule asked r))) (sym has.statement_is) (rule_sealed names r has.stands written spans no_span some spanned.spanned);
+      is = record {
+        count = count_sealed shown;
+        enough = none_or_more (count_sealed shown) (never_one (drop 1 spans));
+        sealed = subst (λ (z : Statement). IsSealed HasLinesOf names (count_sealed shown) z (statement_of (sealed_rule shown r))) (sym has.statement_is) (rule_shown names r has.stands written spans no_span some spanned.spanned);
       };
     }
 
