@@ -7,16 +7,13 @@ use Rattle.std.proofs.lemmas.List.Sums.{count_by-le-length}
 use Rattle.std.proofs.lemmas.Slice.Eq.{bytes_eq-Decides}
 use Rattle.std.specs.Prelude.{Option, None, Some, IfSome, IfNone, IsTrue, option_map, ◌==◌}
 use Rattle.bz_token.specs.Places.{line_at}
-use Rattle.bz_tree.specs.Chunk.{IsStatementIn}
 use Rattle.bz_tree.specs.Tree.{Statement}
 use Rattle.bz_layout_laws.proofs.ChunkLaws.{chunk_class}
 use Rattle.bz_label.specs.Labels.{Name, Pkg, All, Kind as OfKind, Line}
 use Rattle.bz_attribute.specs.Rules.{Rule, is_text, rule_of}
 use Rattle.bz_canonical.specs.Canonical.{HasName, HasPlace, IsCanonical, IsReadBack, between, rule_name}
-use Rattle.bz_canonical.specs.Spans.{AreSpansOf, HasSpans}
-use Rattle.bz_canonical.specs.declared.chunk.CanonicalChunk.{CanonicalChunk}
+use Rattle.bz_canonical.specs.Spans.{AreSpansOf}
 use Rattle.bz_canonical.specs.declared.place.ArgumentPlace.{ArgumentPlace}
-use Rattle.bz_canonical.specs.declared.spans.ArgumentSpan.{ArgumentSpan}
 use Rattle.bz_devices.specs.Ahead.{Ahead, IsFewAfter, IsNextChunk}
 use Rattle.bz_passes.specs.declared.index.Key.TheVariants.{Name as Named, NoName}
 use Rattle.bz_passes.specs.Exchange.{Fits}
