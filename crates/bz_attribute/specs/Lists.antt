@@ -1,4 +1,4 @@
--- The list parts of a value, and which elements equal a word (this project's own rule).
+-- The list parts of a value, and which elements equal a text (this project's own rule).
 -- Begin with `parts`, `edit_parts` and `equals`.
 use Rattle.std.specs.Prelude.{ℕ, List, [], ◌∷◌, ◌++◌, Bool, true, false, ◌||◌, if◌then◌else◌, Option, Some, None, codes, map, take, is_some, bytes_eq}
 use Rattle.std.specs.List.{filter_map, join_by, list_all, slice_split}
@@ -10,7 +10,8 @@ use Rattle.bz_label.specs.Same.{same}
 use Rattle.bz_attribute.specs.Rules.{name_of, string_value}
 use Rattle.bz_token.specs.Common.{map_or}
 
--- the element is one string whose value is the same label as the word
+-- the element is one string whose value is the same label as the text `word`: that is a value of a command,
+-- or the value of another element
 abbrev pub equals : Package → List ℕ → Segment → Bool
 equals home word element = map_or false (λ value. same home value word) (string_value element.nodes)
 

@@ -45,8 +45,9 @@ pub record Counted (D : Type 0) : Type 0 where
   pub bytes : ℕ
   pub failures : ℕ
 
--- a reader gave these pieces: the known bytes begin with them, lose them, and are at their end where the
--- reads are
+-- A reader gave these pieces, by the bytes that it has left, before and after: they are known, as in memory,
+-- or not, as in a file (`None`). Where they are not known before, nothing is said. Known bytes begin with the
+-- pieces, lose them and stay known, and none are left where the reads met the end.
 abbrev pub Gave : Option (List ℕ) → Option (List ℕ) → List (List ℕ) → Type 0
 Gave None new pieces = ⊤
 Gave (Some xs) None pieces = ⊥

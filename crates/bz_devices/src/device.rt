@@ -33,8 +33,10 @@ pub trait Source {
     fn failures(&self) -> u64
         ensures { result ≡ failures self.now };
 
+    // A law, which each source proves: without a read nothing was given, and the state is the same.
     ghost gave_nothing: { (s : Self) → gave s [] s };
 
+    // A law too: reads, and then more reads, gave the pieces of both, in order.
     ghost gave_more: { (a b c : Self) (xs ys : List (List ℕ))
         → gave a xs b → gave b ys c → gave a (xs ++ ys) c };
 }
@@ -63,8 +65,10 @@ pub trait Sink {
     fn failures(&self) -> u64
         ensures { result ≡ failures self.now };
 
+    // A law, which each sink proves: without a write nothing was taken, and the state is the same.
     ghost took_nothing: { (s : Self) → took s [] s };
 
+    // A law too: writes, and then more writes, appended the bytes of both, in order.
     ghost took_more: { (a b c : Self) (xs ys : List ℕ)
         → took a xs b → took b ys c → took a (xs ++ ys) c };
 }

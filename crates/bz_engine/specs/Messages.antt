@@ -38,8 +38,8 @@ placed line col what = decimal line ++ codes ":" ++ decimal col ++ codes ": " ++
 abbrev pub lined : ℕ → List ℕ → List ℕ
 lined line what = decimal line ++ codes ": " ++ what
 
--- the text of a lexical fault (`LexFault`, in `src/fault.rt` of bz_token). Want of memory, here and below, is
--- the fault of no file: `IsAnswerOf` and `IsFaultIn` (stop 4) leave it out.
+-- the text of a lexical fault (`LexFault`, in `src/fault.rt` of bz_token). Want of memory is the fault of no
+-- file: `fault_at` (stop 3) never gives the one here, and `IsAnswerOf` (stop 4) leaves out the one below.
 abbrev pub lex_text : LexFault → List ℕ
 lex_text (OutOfMemory _) = codes "out of memory"
 lex_text (BadCharacter line col) = placed line col (codes "bad character")

@@ -18,7 +18,8 @@ use Rattle.bz_engine.specs.NeededReads.{AreDone}
 use Rattle.bz_engine.specs.Outcome.{Run, IsFrontOf, some_failure, text_after}
 
 -- In every file that begins with the pieces, this chunk comes next after the chunks `cs`: so its end is
--- certain. It has at most `max_statement` bytes.
+-- certain. It has at most `max_statement` bytes. (`IsNextChunk` says both by the bytes ahead alone, and
+-- limits how many are left after the chunk.)
 pub record ComesNext (max_statement : ℕ) (pieces cs : List (List ℕ)) (chunk : List ℕ) : Type 0 where
   pub size : length chunk ≤ max_statement
   pub after : ForEveryFile pieces (λ file. (others : List (List ℕ)) × (chunks file ≡ cs ++ chunk ∷ others))

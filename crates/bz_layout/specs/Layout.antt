@@ -72,8 +72,9 @@ abbrev mutual
       ++ (items_pieces style level (Some kind) (Line level) [] nodes
       ++ (comma_if comma ++ (suffix_piece suffix ++ broken_segs style level kind comma ss)))
 
-  -- segments in place, a comma and a space between them (`first`: none stands before these); they have no
-  -- comments, or the text is flat and leaves them out
+  -- segments in place, a comma and a space between them (`first`: none stands before these), without their
+  -- comments. A flat text leaves these out. In any other a group that has some is broken (`is_broken`),
+  -- however it would stand in place.
   pub flat_segs : Style → ℕ → GroupKind → Bool → Segs → List Piece
   flat_segs style level kind first no_segs = []
   flat_segs style level kind first (seg before nodes suffix ss) =

@@ -252,7 +252,7 @@ done_of (Comment OfRule text) home slot = done None (holds_rule slot)
 done_of (Print fields) home slot = prints home fields slot
 done_of command home slot = slot_done (args_done command home) slot
 
--- Of each command for the laws: which attributes it mentions, and whether it leaves all comments.
+-- Of each command for the laws: which attributes it mentions, and whether it leaves the comments as they are.
 
 -- the attributes that a command mentions; it looks at no other argument's value, but for that of a rule's
 -- name, and changes none
@@ -268,7 +268,7 @@ mentions (Replace attrs old new) name = attributes_mention name attrs
 mentions (Comment commented text) name = comment_mentions name commented
 mentions (Print fields) name = print_mentions name fields
 
--- The commands that leave all comments of a statement.
+-- The commands that leave the comments of a statement exactly as they are (`comment` adds one).
 abbrev pub keeps_comments : Command → Bool
 keeps_comments (Add attr values) = true
 keeps_comments (Set (ToKind kind)) = true

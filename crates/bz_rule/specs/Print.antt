@@ -31,15 +31,16 @@ abbrev pub words_text : List Segment → List ℕ
 words_text ss =
     codes "[" ++ join_with_byte 32 (map (λ s. map_or [] word_form (string_value s.nodes)) ss) ++ codes "]"
 
--- a value that is no string: one list of strings with values as words in brackets, anything else as its text
--- with no group broken (as it is laid out within the call of a rule; a newline within a string stays)
+-- what is not one string with a value: one list of strings with values as words in brackets, anything else as
+-- its text with no group broken (as it is laid out within the call of a rule; a newline within a string
+-- stays). So a string without a value, as `b"x"`, stands as it is spelled.
 abbrev pub other_text : List Item → List ℕ
 other_text nodes =
     let flat = flat_text (Some RuleCall) nodes in
     map_or flat (λ ss. if list_all (λ s. is_some (string_value s.nodes)) ss then words_text ss else flat)
     (only_list nodes)
 
--- a value: a string as a word, anything else as `other_text` has it
+-- an attribute's value: one string with a value as a word, anything else as `other_text` has it
 abbrev pub value_text : List Item → List ℕ
 value_text nodes = map_or (other_text nodes) word_form (string_value nodes)
 

@@ -8,7 +8,8 @@ use Rattle.bz_attribute.specs.Effects.{has, edit_first}
 use Rattle.bz_attribute.specs.declared.done.Note.{Note}
 use Rattle.bz_attribute.specs.declared.done.Note.TheVariants.{NoAttribute, AttributeExists}
 
--- why `rename` does nothing: the old name is absent, or the new one is there
+-- why `rename` does nothing: the old name is absent (the note is that of `absent_note` in `Effects`), or the
+-- new one is there
 abbrev pub rename_note : List ℕ → List ℕ → List Segment → Option Note
 rename_note old new args = if has old args then (if has new args then Some (AttributeExists new) else None)
     else Some (NoAttribute old)

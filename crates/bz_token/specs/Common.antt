@@ -8,7 +8,7 @@ abbrev pub is_empty {ℓ} : {A : Type ℓ} → List A → Bool
 is_empty [] = true
 is_empty (x ∷ xs) = false
 
--- a list with at least one element
+-- a list with at least one element (the same as `not (is_empty xs)`, which some definitions write)
 abbrev pub is_filled {ℓ} : {A : Type ℓ} → List A → Bool
 is_filled [] = false
 is_filled (x ∷ xs) = true

@@ -65,8 +65,9 @@ left Whole bytes = []
 left More bytes = bytes
 left Block bytes = bytes
 
--- What follows a block decides whether the chunk goes on: these bytes, and whatever comes after them, if
--- anything may.
+-- What follows a block decides whether the chunk goes on: these bytes (`ahead`), and whatever comes after
+-- them, if anything may (this condition is `MayFollow` of bz_devices, written out). `Short`: undecided. Only
+-- fewer than five bytes can be: four may be `elif` or `else`, and a fifth tells whether the word ends there.
 abbrev pub IsNext : Next → Bool → List ℕ → List ℕ → Type 0
 IsNext Goes at_end bytes ahead = (rest : List ℕ) → (at_end ≡ true → rest ≡ []) → IsLonger bytes (ahead ++ rest)
 IsNext Ends at_end bytes ahead = (rest : List ℕ) → (at_end ≡ true → rest ≡ []) → EndsBefore bytes (ahead ++ rest)
@@ -81,6 +82,6 @@ left_next Goes bytes = bytes
 left_next Ends bytes = []
 left_next Short bytes = bytes
 
--- The bytes are the last chunk of the file.
+-- The bytes, if there are any, are the last chunk of the file: `last` of `IsPart` says the same.
 abbrev pub IsLast : Cut → List ℕ → Type 0
 IsLast cut bytes = (cut ≡ More) × (0 < length bytes → chunks bytes ≡ bytes ∷ [])

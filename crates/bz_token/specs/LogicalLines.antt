@@ -25,8 +25,8 @@ breaks_off line = map_or false is_broken_off (last_of line)
 abbrev pub line_goes_on : List (List ℕ) → List ℕ → Bool
 line_goes_on line piece = not (breaks_off line || ends_line line)
 
--- a blank line is white space alone, a comment line comments and white space, any other a statement line
--- (`LineKind` is an enum of `src/cutter/scan.rt`)
+-- a blank line is white space and continued lines alone, a comment line comments beside these, any other a
+-- statement line (`LineKind` is an enum of `src/cutter/scan.rt`)
 abbrev pub kind_of : List (List ℕ) → LineKind
 kind_of line =
     if list_all (is_space true) line then Blank

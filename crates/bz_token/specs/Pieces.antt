@@ -24,7 +24,7 @@ is_comment text = begins (λ b. b == 35) text && not (list_any is_newline text)
 abbrev pub is_continued : List ℕ → Bool
 is_continued text = bytes_eq text (92 ∷ 10 ∷ []) || bytes_eq text (92 ∷ 13 ∷ 10 ∷ [])
 
--- one byte, which passes the test
+-- one byte, which passes the test (`is_byte b` of `Strings` is this with the test `λ x. x == b`)
 abbrev pub is_one : (ℕ → Bool) → List ℕ → Bool
 is_one test (b ∷ []) = test b
 is_one test _ = false

@@ -93,7 +93,8 @@ pub record IsAt (first : ℕ) (before : List ℕ) (t : Placed) : Type 0 where
   pub line : line_at first before ≡ t.line
   pub col : column_at before ≡ t.col
 
--- The bytes from a token's place to the end of a later one.
+-- The bytes from a token's place to the end of a later one (`header`: of a block the first token, with which
+-- its header begins).
 pub record IsKeptText (first : ℕ) (bytes : List ℕ) (header last : Placed) (kept : List ℕ) : Type 0 where
   pub before : List ℕ
   pub front : List ℕ
@@ -103,7 +104,8 @@ pub record IsKeptText (first : ℕ) (bytes : List ℕ) (header last : Placed) (k
   pub begins : IsAt first before header
   pub ends : IsAt first (before ++ front) last
 
--- a block as a statement: one node, the text that is kept
+-- a block as a statement: one node, the text that is kept (`header` is its first token, and `end` the line on
+-- which it ends)
 abbrev pub kept_statement : List (List ℕ) → List ℕ → Placed → ℕ → Statement
 kept_statement before kept header end = record {
   before = before;
@@ -114,8 +116,8 @@ kept_statement before kept header end = record {
   end = end;
 }
 
--- The block that the tokens are: its text from the header's first token to the end of its last token,
--- comments counted.
+-- The block that the tokens are: its text from its first token, comments not counted (`header`), to the end
+-- of its last, comments counted.
 pub record IsBlockOf (first : ℕ) (bytes : List ℕ) (tokens : List Placed) (s : Statement) : Type 0 where
   pub header : Placed
   pub last : Placed

@@ -67,7 +67,8 @@ pub record IsStatementIn (first depth : ℕ) (bytes : List ℕ) (s : Statement) 
   pub are : AreTokensOf first depth bytes tokens
   pub reads : IsReadAs first bytes tokens s
 
--- a chunk of white space alone
+-- a chunk of white space and continued lines alone: it has no token but newlines (`kind_of` of bz_token says
+-- of a logical line, by its pieces, that it is blank)
 pub record IsBlank (first depth : ℕ) (bytes : List ℕ) : Type 0 where
   pub tokens : List Placed
   pub are : AreTokensOf first depth bytes tokens
