@@ -1,8 +1,8 @@
 -- The parts of arguments whose values are lists of strings.
-use Rattle.std.proofs.Common.{◌≡◌, ◌<◌, ℕ, ◌+◌, List, [], ◌∷◌, ◌++◌, Bool, true, false, ◌||◌, length, map, drop, get_or, refl, sym, ap, ◌∙◌, arith, append_assoc, append-nil, subst}
+use Rattle.std.proofs.Common.{◌≡◌, ◌<◌, ℕ, ◌+◌, List, [], ◌∷◌, ◌++◌, Bool, true, false, ◌||◌, length, map, drop, get_or, refl, sym, ap, ◌∙◌, arith, append_assoc, append-nil, subst, take}
 use Rattle.std.specs.Prelude.{codes, Option, None, Some, is_some}
 use Rattle.std.specs.List.{concat}
-use Rattle.std.proofs.Math.Seq.{drop-append_seam}
+use Rattle.std.proofs.Math.Seq.{drop-append_seam, take-append_seam}
 use Rattle.std.proofs.lemmas.Bool.{false≢true}
 use Rattle.std.proofs.lemmas.List.{drop-drop, drop_more, length-append, map-append}
 use Rattle.std.proofs.lemmas.Slice.Eq.{bytes_eq-Decides}
@@ -13,19 +13,20 @@ use Rattle.bz_tree.specs.declared.tree.GroupKind.TheVariants.{List as ListKind}
 use Rattle.bz_tree.specs.declared.row.Part.{Part}
 use Rattle.bz_tree.specs.Rows.{RowPart, a_token, above, beside_part, closing, opening, part_view, segment_end, segs_parts}
 use Rattle.bz_tree.specs.Tree.{Segment, segs_of}
-use Rattle.bz_layout.specs.Pieces.{indent}
+use Rattle.bz_layout.specs.Pieces.{bytes_of, comments, indent, suffix_piece}
 use Rattle.bz_attribute.proofs.EditedAt.{segs_join}
 use Rattle.bz_canonical.specs.Canonical.{AreReadAlone}
 use Rattle.bz_canonical.specs.SealedRules.{between, shown}
 use Rattle.bz_canonical.specs.Spans.{AreSpans, is_asked, kept}
+use Rattle.bz_canonical.specs.declared.listed.ElementPlace.{ElementPlace}
 use Rattle.bz_canonical.specs.declared.lists.ReadElement.{ReadElement}
 use Rattle.bz_canonical.specs.declared.spans.ArgumentSpan.{ArgumentSpan}
 use Rattle.bz_canonical.specs.private.Added.{list_arg}
 use Rattle.bz_canonical.specs.private.Arguments.{IsHeadRead}
-use Rattle.bz_canonical.specs.private.Elements.{Element, IsElementRead, IsLast, element_segs, element_stands, element_written, elements_stand, is_noted, separator, closing as ends_with}
-use Rattle.bz_canonical.specs.private.Listed.{ArePut, AreReadEach, IsListHead, IsListPut, gap_text}
+use Rattle.bz_canonical.specs.private.Elements.{Element, IsElementRead, IsLast, element_segs, element_stands, element_written, is_noted, separator, closing as ends_with}
+use Rattle.bz_canonical.specs.private.Listed.{ArePut, AreReadEach, IsListHead, IsListPut, IsPlaceOf, element_parts, gap_text}
 use Rattle.bz_canonical.proofs.ArgumentParts.{lines_cut}
-use Rattle.bz_canonical.proofs.CutTexts.{cut_at}
+use Rattle.bz_canonical.proofs.CutTexts.{cut_at, rest_at}
 use Rattle.bz_canonical.proofs.ElementLists.{elements_read, passed_more, passed_none}
 use Rattle.bz_canonical.proofs.ListLines.{list_alone}
 
@@ -54,24 +55,30 @@ parts_join (e ∷ es) fs =
     moved : (A B X Y : List RowPart) (t s : RowPart) → A ++ (t ∷ s ∷ (B ++ (X ++ Y))) ≡ (A ++ (t ∷ s ∷ (B ++ X))) ++ Y
     moved A B X Y t s = simp append_assoc
 
-parts_more : (es : List Element) (e : Element) → is_noted e ≡ false → segs_parts (element_segs (es ++ e ∷ [])) ≡ segs_parts (element_segs es) ++ (a_token String e.token ∷ segment_end ∷ [])
-parts_more es e plain = parts_join es (e ∷ []) ∙ ap (λ (x : Element). segs_parts (element_segs es) ++ segs_parts (element_segs (x ∷ []))) (is_bare e plain)
+one_parts : (e : Element) → segs_parts (element_segs (e ∷ [])) ≡ element_parts e
+one_parts e = ap (λ (t : List RowPart). map above e.before ++ (a_token String e.token ∷ segment_end ∷ t)) (append-nil (beside_part e.suffix))
+
+parts_more : (es : List Element) (e : Element) → segs_parts (element_segs (es ++ e ∷ [])) ≡ segs_parts (element_segs es) ++ element_parts e
+parts_more es e = parts_join es (e ∷ []) ∙ ap (λ (t : List RowPart). segs_parts (element_segs es) ++ t) (one_parts e)
+
+-- of one without comments
+pub bare_parts : (e : Element) → is_noted e ≡ false → element_parts e ≡ a_token String e.token ∷ segment_end ∷ []
+bare_parts e plain = ap element_parts (is_bare e plain)
 
 pub put_none : (lines : Bool) (inside : List ℕ) (old : List RowPart) → ArePut lines false inside inside old old
 put_none lines inside old = record { written = []; broken = false; passed = passed_none lines inside; parts = sym (append-nil old) }
 
-pub put_more : (lines one : Bool) (inside rest : List ℕ) (old mid new : List RowPart) (read : ReadElement) → ArePut lines one inside rest old mid → IsElementRead lines one rest read → read.noted ≡ false
-    → new ≡ mid ++ (a_token String read.string.token.now ∷ segment_end ∷ []) → ArePut lines true inside read.rest.now old new
-put_more lines one inside rest old mid new read o e noted new_is = record {
+pub put_more : (lines one : Bool) (inside rest next : List ℕ) (old mid new : List RowPart) (read : ReadElement) → ArePut lines one inside rest old mid → (e : IsElementRead lines one rest read) → next ≡ read.rest.now
+    → new ≡ mid ++ element_parts e.element → ArePut lines true inside next old new
+put_more lines one inside rest next old mid new read o e next_is new_is = subst (λ (t : List ℕ). ArePut lines true inside t old new) (sym next_is) (record {
   written = o.written ++ element_written read;
   broken = o.broken || (one || read.noted);
   passed = passed_more lines one o.broken inside rest o.written read o.passed e;
   parts =
       let P : List RowPart = segs_parts (element_segs o.passed.elements) in
-      let T : List RowPart = a_token String read.string.token.now ∷ segment_end ∷ [] in
-      new_is ∙ ap (λ (t : List RowPart). t ++ T) o.parts ∙ append_assoc old P T
-      ∙ ap (λ (t : List RowPart). old ++ t) (sym (parts_more o.passed.elements e.element (e.noted_is ∙ noted) ∙ ap (λ (token : List ℕ). P ++ (a_token String token ∷ segment_end ∷ [])) e.token_is));
-}
+      new_is ∙ ap (λ (t : List RowPart). t ++ element_parts e.element) o.parts ∙ append_assoc old P (element_parts e.element)
+      ∙ ap (λ (t : List RowPart). old ++ t) (sym (parts_more o.passed.elements e.element));
+})
 
 -- parts that are pushed
 
@@ -84,35 +91,61 @@ two_more A B C x y first second = second ∙ ap (λ (t : List RowPart). t ++ y �
 pub three_more : (A B C D : List RowPart) (x y z : RowPart) → B ≡ A ++ x ∷ [] → C ≡ B ++ y ∷ [] → D ≡ C ++ z ∷ [] → D ≡ A ++ (x ∷ y ∷ z ∷ [])
 three_more A B C D x y z first second third = third ∙ ap (λ (t : List RowPart). t ++ z ∷ []) (two_more A B C x y first second) ∙ append_assoc A (x ∷ y ∷ []) (z ∷ [])
 
--- its string in the text
-
-stands_bare : (lines one : Bool) (token rest : List ℕ) → (back : List ℕ) × (element_stands lines one (bare token) ++ rest ≡ gap_text lines one ++ (token ++ back))
-stands_bare true one token rest = (44 ∷ rest, by (indent 2))
+-- those of an element that has comments
+pub noted_parts : (e : Element) (token : List ℕ) (A B C D : List RowPart) → token ≡ e.token → B ≡ A ++ map above e.before → C ≡ B ++ (a_token String token ∷ segment_end ∷ []) → D ≡ C ++ beside_part e.suffix → D ≡ A ++ element_parts e
+noted_parts e token A B C D token_is notes two side =
+    side ∙ ap (λ (t : List RowPart). t ++ beside_part e.suffix) (two ∙ ap (λ (t : List RowPart). t ++ (a_token String token ∷ segment_end ∷ [])) notes) ∙ moved (map above e.before) (beside_part e.suffix)
+    ∙ ap (λ (t : List ℕ). A ++ (map above e.before ++ (a_token String t ∷ segment_end ∷ beside_part e.suffix))) token_is
   where
-    by : (I : List ℕ) → (10 ∷ (I ++ (token ++ 44 ∷ []))) ++ rest ≡ (10 ∷ I) ++ (token ++ (44 ∷ rest))
-    by I = simp append_assoc
-stands_bare false one token rest = (rest, append_assoc (separator one) token rest)
+    moved : (N S : List RowPart) → ((A ++ N) ++ (a_token String token ∷ segment_end ∷ [])) ++ S ≡ A ++ (N ++ (a_token String token ∷ segment_end ∷ S))
+    moved N S = simp append_assoc
 
--- what is told of the token that stands after a gap
-abbrev pub IsTokenIn : List ℕ → ℕ → ℕ → ℕ → List ℕ → Type 0
-IsTokenIn text left gap len token = (front gap_bytes part back : List ℕ) → text ≡ front ++ (gap_bytes ++ (part ++ back)) → left ≡ length (gap_bytes ++ (part ++ back)) → gap ≡ length gap_bytes → len ≡ length part → token ≡ part
+-- its place in the text
 
-pub token_is : (lines one : Bool) (front text inside rest token : List ℕ) (old mid : List RowPart) (read : ReadElement) (left gap len : ℕ) → ArePut lines one inside rest old mid → IsElementRead lines one rest read → read.noted ≡ false
-    → text ≡ front ++ inside → left ≡ length rest → gap ≡ length (gap_text lines one) → len ≡ length read.string.token.now → IsTokenIn text left gap len token → token ≡ read.string.token.now
-token_is lines one front text inside rest token old mid read left gap len o e noted text_is left_is gap_is len_is told =
-    let element_is : e.element ≡ bare read.string.token.now = is_bare e.element (e.noted_is ∙ noted) ∙ ap bare e.token_is in
-    let stands = stands_bare lines one read.string.token.now read.rest.now in
-    let rest_is : rest ≡ gap_text lines one ++ (read.string.token.now ++ stands.0) = e.front ∙ ap (λ (x : Element). element_stands lines one x ++ read.rest.now) element_is ∙ stands.1 in
-    let F : List ℕ = front ++ elements_stand lines o.passed.elements in
-    told F (gap_text lines one) read.string.token.now stands.0
-    (text_is ∙ ap (λ (t : List ℕ). front ++ t) (o.passed.front ∙ ap (λ (t : List ℕ). elements_stand lines o.passed.elements ++ t) rest_is) ∙ sym (append_assoc front (elements_stand lines o.passed.elements) (gap_text lines one ++ (read.string.token.now ++ stands.0))))
-    (left_is ∙ ap length rest_is) gap_is len_is
+stands_at : (lines one : Bool) (text : List ℕ) (read : ReadElement) (e : IsElementRead lines one text read)
+    → (back : List ℕ) × (element_stands lines one e.element ≡ gap_text lines one read ++ (e.element.token ++ back)) × (is_noted e.element ≡ true → back ≡ 44 ∷ bytes_of (suffix_piece e.element.suffix))
+    × (is_noted e.element ≡ true → gap_text lines one read ≡ bytes_of (comments 2 e.element.before) ++ (10 ∷ indent 2))
+stands_at true one text read e =
+    let S : List ℕ = 44 ∷ bytes_of (suffix_piece e.element.suffix) in (
+      S,
+      by (bytes_of (comments 2 e.element.before)) (indent 2) e.element.token S ∙ ap (λ (t : List ℕ). t ++ (e.element.token ++ S)) (sym e.front_is),
+      λ noted. refl,
+      λ noted. e.front_is,
+    )
+  where
+    by : (C I T S : List ℕ) → C ++ (10 ∷ (I ++ (T ++ S))) ≡ (C ++ (10 ∷ I)) ++ (T ++ S)
+    by C I T S = simp append_assoc
+stands_at false one text read e = (
+  [],
+  ap (λ (t : List ℕ). separator one ++ t) (sym (append-nil e.element.token)),
+  λ noted. absurd (false≢true (sym (e.bare refl) ∙ noted)),
+  λ noted. absurd (false≢true (sym (e.bare refl) ∙ noted)),
+)
 
--- how the token is cut
-pub token_cut : (text token : List ℕ) (left gap len before from to : ℕ) → before + left ≡ length text → from ≡ before + gap → to ≡ from + len → token ≡ between from to text → IsTokenIn text left gap len token
-token_cut text token left gap len before from to before_is from_is to_is token_is = λ front gap_bytes part back text_is left_is gap_is len_is.
-    token_is ∙ cut_at (front ++ gap_bytes) part back text from to (text_is ∙ sym (append_assoc front gap_bytes (part ++ back)))
-    (omega (arith, before_is, from_is, left_is, gap_is, ap length text_is, length-append front (gap_bytes ++ (part ++ back)), length-append front gap_bytes)) (omega (arith, to_is, len_is))
+pub place_is : (lines one : Bool) (text element others : List ℕ) (read : ReadElement) (place : ElementPlace) (len gap size : ℕ) → len + length read.rest.now ≡ length text → element ≡ take len text → place.rest.now ≡ drop len text
+    → gap ≡ length (gap_text lines one read) → place.above.now ≡ take gap element → others ≡ drop gap element → size ≡ length read.string.token.now → place.token.now ≡ take size others → place.side.now ≡ drop size others
+    → place.noted ≡ read.noted → IsPlaceOf lines one text read place
+place_is lines one text element others read place len gap size len_is element_is rest_is gap_is above_is others_is size_is token_is side_is noted_is = λ e.
+    let E : List ℕ = element_stands lines one e.element in
+    let R : List ℕ = read.rest.now in
+    let G : List ℕ = gap_text lines one read in
+    let T : List ℕ = e.element.token in
+    let at = stands_at lines one text read e in
+    let B : List ℕ = at.0 in
+    let len_eq : len ≡ length E = omega (arith, len_is, ap length e.front, length-append E R) in
+    let element_eq : element ≡ G ++ (T ++ B) = element_is ∙ ap (take len) e.front ∙ ap (λ n. take n (E ++ R)) len_eq ∙ take-append_seam E R ∙ at.1 in
+    let others_eq : others ≡ T ++ B = others_is ∙ ap (drop gap) element_eq ∙ ap (λ n. drop n (G ++ (T ++ B))) gap_is ∙ drop-append_seam G (T ++ B) in
+    let size_eq : size ≡ length T = size_is ∙ ap length (sym e.token_is) in
+    let noted : place.noted ≡ is_noted e.element = noted_is ∙ sym e.noted_is in (
+      rest_is ∙ ap (drop len) e.front ∙ ap (λ n. drop n (E ++ R)) len_eq ∙ drop-append_seam E R,
+      record {
+        are = e.are.0;
+        token_is = token_is ∙ ap (take size) others_eq ∙ ap (λ n. take n (T ++ B)) size_eq ∙ take-append_seam T B;
+        noted_is = noted;
+        above_is = λ yes. above_is ∙ ap (take gap) element_eq ∙ ap (λ n. take n (G ++ (T ++ B))) gap_is ∙ take-append_seam G (T ++ B) ∙ at.3 (sym noted ∙ yes);
+        side_is = λ yes. side_is ∙ ap (drop size) others_eq ∙ ap (λ n. drop n (T ++ B)) size_eq ∙ drop-append_seam T B ∙ at.2 (sym noted ∙ yes);
+      },
+    )
 
 -- all elements
 
@@ -127,27 +160,28 @@ list_put lines one inside rest old new o ends = record {
 
 -- the argument
 
-pub head_cut : (text inner equals value inside token name : List ℕ) (end : ℕ) → text ≡ 10 ∷ 32 ∷ 32 ∷ 32 ∷ 32 ∷ inner → inner ≡ token ++ equals → equals ≡ codes " = " ++ value → value ≡ 91 ∷ inside → is_text Identifier token ≡ true
-    → end + length equals ≡ length text → name ≡ between 5 end text → IsListHead text name inside
-head_cut text inner equals value inside token name end text_is inner_is equals_is value_is is size name_is =
+pub head_cut : (text inner equals value list token name inside : List ℕ) (end from : ℕ) → text ≡ 10 ∷ 32 ∷ 32 ∷ 32 ∷ 32 ∷ inner → inner ≡ token ++ equals → equals ≡ codes " = " ++ value → value ≡ 91 ∷ list → is_text Identifier token ≡ true
+    → end + length equals ≡ length text → name ≡ between 5 end text → from + length list ≡ length text → inside ≡ drop from text → IsListHead text name inside
+head_cut text inner equals value list token name inside end from text_is inner_is equals_is value_is is size name_is from_is inside_is =
     let cut : between 5 end text ≡ token = cut_at (10 ∷ 32 ∷ 32 ∷ 32 ∷ 32 ∷ []) token equals text 5 end (text_is ∙ ap (λ (t : List ℕ). 10 ∷ 32 ∷ 32 ∷ 32 ∷ 32 ∷ t) inner_is) refl
     (omega (arith, size, ap length text_is, ap length inner_is, length-append token equals)) in
     let same : name ≡ token = name_is ∙ cut in
+    let whole : text ≡ 10 ∷ 32 ∷ 32 ∷ 32 ∷ 32 ∷ (token ++ (codes " = [" ++ list)) = text_is ∙ ap (λ (t : List ℕ). 10 ∷ 32 ∷ 32 ∷ 32 ∷ 32 ∷ t) (inner_is ∙ ap (λ (t : List ℕ). token ++ t) (equals_is ∙ ap (λ (t : List ℕ). codes " = " ++ t) value_is)) in
+    let F : List ℕ = 10 ∷ 32 ∷ 32 ∷ 32 ∷ 32 ∷ (token ++ codes " = [") in
+    let parted : text ≡ F ++ list = whole ∙ ap (λ (t : List ℕ). 10 ∷ 32 ∷ 32 ∷ 32 ∷ 32 ∷ t) (sym (append_assoc token (codes " = [") list)) in
+    let inside_eq : inside ≡ list = inside_is ∙ rest_at F list text from parted (omega (arith, from_is, ap length parted, length-append F list)) in
     record {
       is = ap (is_text Identifier) same ∙ is;
-      front = text_is ∙ ap (λ (t : List ℕ). 10 ∷ 32 ∷ 32 ∷ 32 ∷ 32 ∷ t) (inner_is ∙ (λ i. sym same i ++ (equals_is ∙ ap (λ (t : List ℕ). codes " = " ++ t) value_is) i));
+      front = whole ∙ (λ i. 10 ∷ 32 ∷ 32 ∷ 32 ∷ 32 ∷ (sym same i ++ (codes " = [" ++ sym inside_eq i)));
     }
 
 joined : (O E : List RowPart) (x y z c e : RowPart) → ((O ++ (x ∷ y ∷ z ∷ [])) ++ E) ++ (c ∷ e ∷ []) ≡ O ++ ((x ∷ y ∷ ((z ∷ (E ++ c ∷ [])) ++ [])) ++ (e ∷ []))
 joined O E x y z c e = rw (append-nil (E ++ c ∷ [])) (simp append_assoc)
 
 pub argument_put : (depth : ℕ) (text word inside : List ℕ) (old mid new : List RowPart) (args : List Segment) → 1 < depth → IsListHead text word inside → (begun : List RowPart)
-    → begun ≡ old ++ (a_token Identifier word ∷ a_token Operator (codes "=") ∷ opening ListKind ∷ []) → ((front : List ℕ) → text ≡ front ++ inside → IsListPut inside begun mid) → new ≡ mid ++ (closing false ∷ segment_end ∷ [])
+    → begun ≡ old ++ (a_token Identifier word ∷ a_token Operator (codes "=") ∷ opening ListKind ∷ []) → IsListPut inside begun mid → new ≡ mid ++ (closing false ∷ segment_end ∷ [])
     → AreReadAlone depth text args → new ≡ old ++ segs_parts (segs_of args)
-argument_put depth text word inside old mid new args deep h begun begun_is puts new_is reads =
-    let F : List ℕ = 10 ∷ (indent 1 ++ (word ++ codes " = [")) in
-    let front : text ≡ F ++ inside = h.front ∙ ap (λ (t : List ℕ). 10 ∷ 32 ∷ 32 ∷ 32 ∷ 32 ∷ t) (sym (append_assoc word (codes " = [") inside)) in
-    let p : IsListPut inside begun mid = puts F front in
+argument_put depth text word inside old mid new args deep h begun begun_is p new_is reads =
     let head : IsHeadRead word text (91 ∷ inside) true = record { notes = []; are = refl; word = word; is = h.is; front = h.front; named_is = (bytes_eq-Decides word word).1 refl } in
     let last : IsLast (44 ∷ []) = record { suffix = None; is = refl; front = refl } in
     let same : args ≡ list_arg [] word p.read.elements None ∷ [] = (list_alone depth word text inside (44 ∷ []) p.written p.one p.broken deep head p.read last).same args reads in

@@ -72,6 +72,7 @@ name_line name = 10 ∷ (indent 1 ++ (codes "name" ++ (codes " = " ++ (34 ∷ (n
 pub data IsLevel : ℕ → ℕ → ℕ → Type 0 where
   outside : IsLevel 0 35 0
   inside : IsLevel 1 32 4
+  deeper : IsLevel 2 32 8
 
 -- what stands after them
 abbrev pub back_parts : List (List ℕ) → Option (List ℕ) → List RowPart

@@ -140,7 +140,7 @@ pub(crate) fn is_on_lines(inside: &[u8]) -> bool {
 #[derive(Clone, Copy)]
 pub(crate) struct ReadElement<'t> {
     /// What is written before its string: the comments above it, and the indent.
-    front: &'t [u8],
+    pub(crate) front: &'t [u8],
     pub(crate) string: ReadString<'t>,
     /// What is written after it: the comma, and the comment beside it.
     back: &'t [u8],

@@ -93,7 +93,7 @@ fn put_sealed<'a>(lines: &'a str, comma: usize, parts: &mut Parts<'a>) -> Result
 }
 
 /// Reads the comment that follows a byte and two spaces, if anything does.
-fn put_beside<'a>(side: &'a str, parts: &mut Parts<'a>) -> Result<bool, NoMemory>
+pub(crate) fn put_beside<'a>(side: &'a str, parts: &mut Parts<'a>) -> Result<bool, NoMemory>
     ensures { IfOk result (λ put. IsTrue put → (byte : ℕ) (suffix : Option (List ℕ))
         → side.now ≡ byte ∷ bytes_of (suffix_piece suffix)
         → map part_view parts.new.items ≡ map part_view parts.old.items ++ beside_part suffix) }
@@ -118,7 +118,7 @@ pub(crate) fn begins_with(bytes: &[u8], first: u8) -> bool
 }
 
 /// Reads the comments on the lines here, each of which begins with this byte and the indent, and answers what follows.
-fn put_comments<'a>(
+pub(crate) fn put_comments<'a>(
     lines: &'a str,
     first: u8,
     indent: usize,
