@@ -122,7 +122,7 @@ pub fn seal<'a>(
 }
 
 /// The row of a rule, of which the arguments after the name are sealed that are not asked for, or none if `all` are to be
-/// seen. None: the value of one that is seen is no list of strings, or it has a comment.
+/// seen. None: `put_lists` does not know one that is seen.
 fn row_of_lists<'a>(
     room: Room<'a>,
     found: FoundRule<'a>,
