@@ -27,7 +27,7 @@ pub record IsReadOn (max_reads : ℕ) (old new : Ahead) (pieces : List (List ℕ
   pub few : length (concat pieces) ≤ 8192 * length pieces
 
 -- The first n bytes ahead are the next chunk, whatever follows. It has at most `max_statement` bytes. At most
--- 8,192 are left after it, as many as one read gives at most: no read comes after the one that settles the chunk.
+-- 8,192 are left after it: no read comes after the one that settles the chunk, and each is short enough for that.
 pub record IsNextChunk (max_statement : ℕ) (ahead : Ahead) (n : ℕ) : Type 0 where
   pub some : 0 < n
   pub within : n ≤ length ahead.bytes
@@ -61,8 +61,8 @@ NoneIsChunk bytes = (n : ℕ) → 0 < n → n ≤ length bytes
     → ((rest : List ℕ) → EndsBefore (take n bytes) (drop n bytes ++ rest)) → ⊥
 
 -- These bytes, after which no end was met, leave the next chunk open: no front of them is a chunk whatever follows,
--- and it is not sure to be too long. (`IsNextChunk` and `IsTooLong` say so of bytes after which the end may have been
--- met.)
+-- and it is not sure to be too long. (Its opposites: `IsNextChunk`, a front is the chunk, and `IsTooLong`, it is sure
+-- to be too long. There the end may have been met.)
 pub record IsUndecided (max_statement : ℕ) (bytes : List ℕ) : Type 0 where
   pub none_is_chunk : NoneIsChunk bytes
   pub none_too_long : ((rest : List ℕ) → BeginsTooLong max_statement bytes rest) → ⊥

@@ -1,5 +1,5 @@
--- The texts of messages (this project's own rule): a rule is shown by its label, a fault by its line and
--- column.
+-- The texts of messages (this project's own rule): a rule is shown by its label, a fault by its line, and by
+-- its column unless it is of a whole line.
 -- Begin with `fault_text`, `note_entry` and `not_found_text`.
 use Rattle.std.specs.Prelude.{ℕ, List, ◌++◌, codes}
 use Rattle.std.specs.Fmt.{decimal}

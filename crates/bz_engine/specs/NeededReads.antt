@@ -13,10 +13,10 @@ use Rattle.bz_engine.specs.Outcome.{Script, Run, run_with, MayGoOn}
 
 -- After reads that gave these pieces the chunks `front` are done, and the bytes `left` of the pieces stand after
 -- them (`bytes_are`, which follows from `chunks_are` and is plainer). Each file that begins with the pieces
--- begins with these chunks, and goes on with those of `left` and of `rest`, which is what follows the pieces:
--- nothing, where the end was met. (`ForEveryFile` does not name that rest, and `BeginsWith` speaks of one
--- file.) The first chunk begins on line 1. The chunks have these statements and no fault, and do not end the
--- run.
+-- begins with these chunks, and goes on with those of the bytes `left` and `rest` together, where `rest` is
+-- what follows the pieces: nothing, where the end was met. (`ForEveryFile` does not name that rest, and
+-- `BeginsWith` speaks of one file.) The first chunk begins on line 1. The chunks have these statements and no
+-- fault, and do not end the run.
 pub record AreDone (run : Run) (pieces front : List (List ℕ)) (statements : List Statement)
     (left : List ℕ) : Type 0 where
   pub bytes_are : concat pieces ≡ concat front ++ left

@@ -56,8 +56,8 @@ abbrev mutual
       ++ (comments (level + 1) end ++ piece (Line level) Operator (brackets kind).1 ∷ [])
       else in_place ++ (comma_if one_comma ++ piece Closed Operator (brackets kind).1 ∷ []))
 
-  -- the nodes of a segment or statement, after those before them (`before`; in a `seg` these are the comments
-  -- above it); `first` is the gap before the first node
+  -- the nodes of a segment or statement, after those before them (`before`, the nearest first); `first` is the
+  -- gap before the first node. (The `before` of a `seg` is something else: the comments above it.)
   pub items_pieces : Style → ℕ → Option GroupKind → Gap → List Item → Items → List Piece
   items_pieces style level within first before no_items = []
   items_pieces style level within first before (item x xs) =

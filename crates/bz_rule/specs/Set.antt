@@ -60,8 +60,8 @@ new_value (NewNumber digits) = leaf Integer digits ∷ []
 new_value (NewConstant name) = leaf Identifier name ∷ []
 new_value (NewStrings words) = list_item (map string words) ∷ []
 
--- A value is these nodes already: comments do not count, and strings are compared by their values, in lists
--- each with the one in its place (`pointwise`).
+-- These nodes, which are an argument's value, are this new value already: comments do not count, and strings
+-- are compared by their values, in lists each with the one in its place (`pointwise`).
 abbrev pub is_value : New → List Item → Bool
 is_value (NewString word) nodes = is_text word (string_value nodes)
 is_value (NewNumber digits) (leaf Integer text ∷ []) = bytes_eq text digits

@@ -1,5 +1,5 @@
--- The first lexical fault of a text, and its place: what stands after the gaps and tokens that could be read
--- (this project's own rule).
+-- The first lexical fault of a text, and its place: what stands after the gaps and tokens that could be read,
+-- or the bracket that stays open (this project's own rule).
 -- Begin with `IsFirstFault`.
 -- `run` does not reach `IsFault` and `HasFault`.
 use Rattle.std.specs.Prelude.{◌≡◌, ℕ, List, [], ◌++◌, true, false, ◌==◌, if◌then◌else◌, Option, Some, None, is_some}

@@ -15,7 +15,9 @@ use Rattle.bz_tree.specs.Brackets.{leaf_of, end_line, is_line, without_lines}
 use Rattle.bz_tree.specs.Statement.{class_of, is_aside, bare_tokens, first_token, last_seen}
 use Rattle.bz_token.specs.Common.{is_filled, last_of, map_or}
 
--- a token of this kind and text begins a block (`opener_of` of bz_token has the words)
+-- A token of this kind and text begins a block; `opener_of` of bz_token has the words. (bz_token tells a block
+-- by its bytes, `opener`, to find the end of its chunk. What begins none in tokens begins none in bytes, by a
+-- law of bz_layout_laws; the converse is not proved.)
 abbrev pub is_block_word_at : Kind → List ℕ → Bool
 is_block_word_at Keyword text = is_some (opener_of text)
 is_block_word_at _ text = false

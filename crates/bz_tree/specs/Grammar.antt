@@ -1,8 +1,9 @@
 -- The grammar of a statement's nodes: its productions as a table, and what it is to have their form. These
 -- are those of the Starlark specification ("Grammar reference") for one statement outside blocks, without
 -- `lambda`, floats, `;`, `pass`, `break`, `continue` and `return`. Nothing is evaluated, so precedence is
--- left out: a Binary is Unaries with any binary operators between them. Own to this project: an index is one
--- Test; the condition of an `if`, and what a `for` goes over, is one Binary.
+-- left out: a Binary is Unaries with any binary operators between them. Own to this project: an index that is
+-- no slice is one Test, as is each part of a slice; the condition of an `if`, and what a `for` goes over, is one
+-- Binary; an integer takes no `.` directly after it.
 -- Begin with `IsStatement`.
 use Rattle.std.specs.Prelude.{codes, ◌≡◌, ℕ, List, [], ◌∷◌, ◌++◌, Bool, true}
 use Rattle.bz_token.specs.declared.token.Kind.{Kind}
