@@ -1,8 +1,9 @@
 -- What the script made of a chunk that was found, where some arguments of its rule may be sealed.
-use Rattle.std.proofs.Common.{◌≡◌, ℕ, true, List, ap, sym, subst}
+use Rattle.std.proofs.Common.{◌≡◌, ℕ, true, List, ap, sym, subst, ◌∙◌}
 use Rattle.std.specs.Prelude.{Option, None, Some, IfNone, IfSome}
 use Rattle.bz_token.specs.Common.{is_filled}
 use Rattle.bz_tree.specs.Tree.{Statement}
+use Rattle.bz_layout.specs.Layout.{layout_text}
 use Rattle.bz_passes.specs.Exchange.{Fits}
 use Rattle.bz_engine.specs.Outcome.{Run}
 use Rattle.bz_engine.specs.Progress.{Progress}
@@ -11,11 +12,11 @@ use Rattle.bz_engine.specs.declared.edit.Scripted.{Scripted}
 use Rattle.bz_engine.specs.declared.edit.Scripted.TheVariants as scripts
 use Rattle.bz_engine.specs.private.Edits.{DoesNothing, IsLaidOut, IsScripted}
 use Rattle.bz_engine.specs.declared.sealed.HeadedRule.{HeadedRule}
-use Rattle.bz_engine.specs.private.Found.{IsFoundOn, IsRuleFound}
+use Rattle.bz_engine.specs.private.Found.{HasItsSpans, IsFoundOn, IsRuleFound}
 use Rattle.bz_engine.specs.private.NextChunks.{ScriptsFound}
 use Rattle.bz_engine.specs.private.Sealed.{IsSealedRule, asked_names}
 use Rattle.bz_engine.proofs.ScriptNames.{asked_cover}
-use Rattle.bz_engine.proofs.SealedScript.{scripted_same}
+use Rattle.bz_engine.proofs.SealedScript.{laid_same, scripted_same}
 
 pub script_line : (run : Run) (s : Statement) (old new : Progress) (before after : List ℕ) (scripted : Scripted) → IsScripted run s old new before after scripted → new.line ≡ old.line
 script_line run s old new before after scripts.Done done = done.line
@@ -32,6 +33,16 @@ sealed_found run found old new before after line t scripted some at fits seals d
   scripted = λ s is. scripted_same (asked_names run.passes) run s t old new before after scripted (asked_cover run.passes some) (seals s (subst (λ n. IsFoundOn run.max_depth n found s) (sym at) is)) done;
   nothing = tt;
 }
+
+-- what is written of the rule that was made
+pub made_written : (run : Run) (found : Found) (noted : HeadedRule) (line : ℕ) (made : Option Statement) → HasItsSpans run.max_depth run.passes found → IsRuleFound line found noted
+    → IfSome made (λ t. (line : ℕ) (s : Statement) → IsRuleFound line found noted → IsFoundOn run.max_depth line found s → IsSealedRule (asked_names run.passes) s t)
+    → IfSome made (λ t. layout_text t ≡ found.chunk.written.now)
+made_written run found noted line None spans rule seals = tt
+made_written run found noted line (Some t) spans rule seals =
+    let at = spans.read line in
+    let is = seals line at.0 rule at.1 in
+    sym (laid_same (asked_names run.passes) is.count at.0 t is.sealed is.enough) ∙ at.1.is.written
 
 -- the same, where a rule was made: else nothing is done
 pub sealed_done : (run : Run) (found : Found) (noted : HeadedRule) (old new : Progress) (before after : List ℕ) (line : ℕ) (made : Option Statement) (answer : Option Scripted)

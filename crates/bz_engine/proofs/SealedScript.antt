@@ -78,7 +78,7 @@ passes_keep names home passes covered count =
 class_same : (names : List (List ℕ)) (count : ℕ) (s t : Statement) → IsSealed HasLinesOf names count s t → t.class ≡ s.class
 class_same names count s t is = ap (λ (z : Statement). z.class) is.rest
 
-laid_same : (names : List (List ℕ)) (count : ℕ) (s t : Statement) → IsSealed HasLinesOf names count s t → IsNoneOrMore count → layout_text s ≡ layout_text t
+pub laid_same : (names : List (List ℕ)) (count : ℕ) (s t : Statement) → IsSealed HasLinesOf names count s t → IsNoneOrMore count → layout_text s ≡ layout_text t
 laid_same names count s t is (inl none) = ap layout_text (unsealed_same names s t (subst (λ n. IsSealed HasLinesOf names n s t) none is))
 laid_same names count s t is (inr two) = sealed_written names count s t is two
 

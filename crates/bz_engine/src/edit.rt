@@ -1,8 +1,9 @@
 //! A whole script on one chunk.
 
-ghost use Rattle.std.specs.Prelude.{◌≡◌, ◌+◌, ◌<◌, ◌≤◌, ◌^◌, Some, length, IfOk, OnOk, option_map, option_to_list, take};
+ghost use Rattle.std.specs.Prelude.{◌≡◌, ◌+◌, ◌<◌, ◌≤◌, ◌^◌, None, Some, if◌then◌else◌, length, IfOk, IfSome, OnOk, option_map, option_to_list, take};
 ghost use Rattle.std.specs.List.{flat_map};
 ghost use Rattle.bz_tree.specs.Tree.{Statement};
+ghost use Rattle.bz_layout.specs.Layout.{layout_text};
 ghost use Rattle.bz_passes.specs.Entries.{failure_text};
 ghost use Rattle.bz_passes.specs.Exchange.{Fits, log_alone};
 ghost use Rattle.bz_engine.specs.private.ChunkRead.{IsReadAs};
@@ -120,17 +121,28 @@ fn edit_row<'a>(
         return Ok(Scripted::Done);
     }
     let mut slot = Some(StatementRow::new(script.bump, row, head));
-    edit_slot(script, &mut slot, progress, text)
+    edit_slot(script, &mut slot, None, progress, text)
 }
 
-/// Runs the script on what is in a slot.
+/// What is written of a statement that nothing changed, if it is known.
+fn unchanged<'t>(written: Option<&'t str>, changed: bool) -> Option<&'t str>
+    ensures { result ≡ (if changed then None else written.entry) }
+{
+    if changed { None } else { written }
+}
+
+/// Runs the script on what is in a slot. If it is known what is written of that (`written`), it is laid out only where
+/// it was changed.
 pub(crate) fn edit_slot<'a>(
     script: ScriptRun<'a>,
     slot: &mut Option<StatementRow<'a>>,
+    written: Option<&str>,
     progress: &mut Progress,
     text: &mut Vec<u8>,
 ) -> Result<Scripted, NoMemory>
-    requires { Fits progress.old.kept script.passes.now }
+    requires fits { Fits progress.old.kept script.passes.now }
+    requires written { IfSome written
+        (λ known. (s : Statement) → slot.old ≡ Some s → layout_text s ≡ known.now) }
     ensures fits { OnOk result (Fits progress.new.kept script.entry.passes.now) }
     ensures scripted { IfOk result (λ scripted. (s : Statement) → slot.old ≡ Some s
         → IsScripted (run_of script.entry) s progress.old progress.new
@@ -140,9 +152,10 @@ pub(crate) fn edit_slot<'a>(
         alloc: script.alloc,
         home: script.home,
     };
-    // A copy, since a failure that ends the run tells only of the statements before.
+    // A copy, since a failure that ends the run tells only of the statements before. Of changes it knows those of this
+    // statement alone.
     let mut facts = Facts {
-        changed: progress.changed,
+        changed: false,
         failed: progress.failed,
     };
     let kept = progress.kept.as_mut_slice();
@@ -152,9 +165,10 @@ pub(crate) fn edit_slot<'a>(
         let failure = first_failure(script.alloc, kept)?;
         return Ok(Scripted::Failed(failure));
     }
-    progress.changed = facts.changed;
+    progress.changed |= facts.changed;
     progress.failed = facts.failed;
-    put_slot(script, slot, progress, text)?;
+    let known = unchanged(written, facts.changed);
+    put_slot(script, slot, known, progress, text)?;
     Ok(Scripted::Done)
 }
 

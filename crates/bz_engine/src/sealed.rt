@@ -1,9 +1,10 @@
 //! Rules of which the script does not see some arguments: those are sealed. The script runs on the rule with the others,
-//! and what is written of a sealed argument is its lines.
+//! and what is written of a sealed argument is its lines. A rule that nothing changes is copied.
 
 ghost use Rattle.std.specs.Prelude.{◌≡◌, ◌+◌, ◌<◌, ◌^◌, ◌==◌, ℕ, Some, count_by, IfNone, IfOk, IfSome, IsTrue, OnOk, length, true};
 ghost use Rattle.bz_token.specs.Common.{is_filled};
 ghost use Rattle.bz_tree.specs.Tree.{Statement};
+ghost use Rattle.bz_layout.specs.Layout.{layout_text};
 ghost use Rattle.bz_passes.specs.Exchange.{Fits};
 ghost use Rattle.bz_engine.specs.private.Edits.{DoesNothing, IsScripted, run_of};
 ghost use Rattle.bz_engine.specs.private.Found.{HasItsSpans, IsFoundOn, IsRuleFound};
@@ -72,19 +73,21 @@ fn edit_noted(
     progress.begin_lists();
     let mut spare = progress.take_spare(script.alloc);
     let made = sealed_rule(script, found, noted, &mut spare.small)?;
-    let scripted = edit_if_made(script, made, progress, text)?;
+    let scripted = edit_if_made(script, made, found.chunk.written, progress, text)?;
     progress.give_back(spare);
     Ok(scripted)
 }
 
-/// Runs the script on the rule that was made, if one was. None, with nothing done: else.
+/// Runs the script on the rule that was made, if one was, of which this is written. None, with nothing done: else.
 fn edit_if_made<'a>(
     script: ScriptRun<'a>,
     made: Option<StatementRow<'a>>,
+    written: &str,
     progress: &mut Progress,
     text: &mut Vec<u8>,
 ) -> Result<Option<Scripted>, NoMemory>
-    requires { Fits progress.old.kept script.passes.now }
+    requires fits { Fits progress.old.kept script.passes.now }
+    requires written { IfSome made (λ stmt. layout_text stmt ≡ written.now) }
     ensures fits { OnOk result (Fits progress.new.kept script.entry.passes.now) }
     ensures some { IfOk result (λ answer. IfSome answer (λ scripted. (t : Statement) × (made.entry ≡ Some t)
         × IsScripted (run_of script.entry) t progress.old progress.new
@@ -96,7 +99,7 @@ fn edit_if_made<'a>(
         return Ok(None);
     };
     let mut slot = Some(stmt);
-    let scripted = edit_slot(script, &mut slot, progress, text)?;
+    let scripted = edit_slot(script, &mut slot, Some(written), progress, text)?;
     Ok(Some(scripted))
 }
 

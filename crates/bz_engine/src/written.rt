@@ -1,6 +1,6 @@
 //! What is written of a statement, after those before it.
 
-ghost use Rattle.std.specs.Prelude.{◌≡◌, ◌++◌, not, if◌then◌else◌, [], ◌∷◌, Some, IfOk, OnOk};
+ghost use Rattle.std.specs.Prelude.{◌≡◌, ◌++◌, not, if◌then◌else◌, [], ◌∷◌, Some, IfOk, IfSome, OnOk};
 ghost use Rattle.bz_tree.specs.Rows.{IsRowOf};
 ghost use Rattle.bz_tree.specs.Tree.{Statement};
 ghost use Rattle.bz_layout.specs.Gaps.{lines_before, gap_text};
@@ -78,13 +78,31 @@ pub(crate) fn put_passed(
     Ok(())
 }
 
-/// Lays out what the script left in a slot.
+/// Writes a statement, whose text may be known.
+#[inline(always)]
+fn put_statement(
+    stmt: &StatementRow<'_>,
+    known: Option<&str>,
+    text: &mut Vec<u8>,
+) -> Result<(), NoMemory>
+    requires { IfSome known (λ known. layout_text stmt.now ≡ known.now) }
+    ensures { OnOk result (text.new.items ≡ text.old.items ++ layout_text stmt.now) }
+{
+    match known {
+        Some(known) => extend_from_slice(text, known.as_bytes()),
+        None => stmt.put(text),
+    }
+}
+
+/// Writes what the script left in a slot. Its text may be known: otherwise it is laid out.
 pub(crate) fn put_slot(
     script: ScriptRun<'_>,
     slot: &Option<StatementRow<'_>>,
+    known: Option<&str>,
     progress: &mut Progress,
     text: &mut Vec<u8>,
 ) -> Result<(), NoMemory>
+    requires { IfSome known (λ known. (s : Statement) → slot.now ≡ Some s → layout_text s ≡ known.now) }
     ensures last { OnOk result
         (progress.new ≡ record progress.old { last = last_class progress.old.last (slot.now ∷ []) }) }
     ensures text { OnOk result (text.new.items ≡ text.old.items
@@ -95,7 +113,7 @@ pub(crate) fn put_slot(
         return Ok(());
     };
     if begin_statement(script, stmt.class(), progress, text)? {
-        stmt.put(text)?;
+        put_statement(stmt, known, text)?;
     }
     Ok(())
 }

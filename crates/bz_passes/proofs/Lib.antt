@@ -11,3 +11,4 @@ pub mod Skips
 pub mod PassedBy
 pub mod OnePass
 pub mod Woven
+pub mod Unchanged

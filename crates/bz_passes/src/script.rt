@@ -1,9 +1,9 @@
 //! A whole script on one slot.
 
-ghost use Rattle.std.specs.Prelude.{◌≡◌, ◌≢◌, ◌<◌, ◌++◌, ◌||◌, not, [], ◌∷◌, List, length, true, IfNone, IfSome, IsTrue, OnOk};
+ghost use Rattle.std.specs.Prelude.{◌≡◌, ◌≢◌, ◌<◌, ◌++◌, ◌||◌, not, length, true, IfNone, IfSome, IsTrue, OnOk};
 ghost use Rattle.bz_passes.specs.Passes.{Slot, executed, marked};
 ghost use Rattle.bz_passes.specs.Asked.{IsFirstFrom, IsKeyOf, passes_for, some_may_mark};
-ghost use Rattle.bz_passes.specs.Exchange.{Fits, IsLeftBy, IsPassedBy, slot_after_commands, slot_after_pass, slot_after, logs_alone, logs_and, pass_alone, pass_and, kept_alone, kept_and, some_of_commands_alone, some_alone, entries, meets, with_mark};
+ghost use Rattle.bz_passes.specs.Exchange.{Fits, IsPassedBy, slot_after_commands, slot_after_pass, slot_after, logs_alone, logs_and, pass_alone, pass_and, kept_alone, kept_and, some_of_commands_alone, some_alone, entries, meets, with_mark};
 ghost use Rattle.bz_passes.specs.OnePass.{IsOnlyFor};
 
 use crate::index::Key;
@@ -136,8 +136,9 @@ fn next_marked<L: Language>(
     None
 }
 
-/// Executes the whole script on one slot. If what is kept and the facts are those of the slots before, they are then
-/// those of the slots with this one. After an `Err` neither the slot nor what is kept is of use.
+/// Executes the whole script on one slot, as by itself. What is kept and the facts get what it tells there: if they are
+/// those of the slots before, they are then those of the slots with this one (law `exchange`). After an `Err` neither the
+/// slot nor what is kept is of use.
 pub fn run_script<L: Language>(
     language: &L,
     passes: &Passes<L::Target, L::Command>,
@@ -150,14 +151,13 @@ pub fn run_script<L: Language>(
     ensures fits { OnOk result (Fits kept.new passes.now) }
     ensures slot { OnOk result (L.seen slot.new
         ≡ slot_after (L.meaning language.now) passes.now (L.seen slot.old)) }
-    // Some execution failed on this slot, or before.
+    ensures kept { OnOk result (kept.new
+        ≡ kept_and kept.old (kept_alone (L.meaning language.now) passes.now (L.seen slot.old))) }
+    // Some execution changed this slot, or failed on it, or one before did.
+    ensures changed { OnOk result (facts.new.changed ≡ (facts.old.changed
+        || some_alone (L.meaning language.now) (L.changes language.now) passes.now (L.seen slot.old))) }
     ensures failed { OnOk result (facts.new.failed ≡ (facts.old.failed
         || some_alone (L.meaning language.now) (L.fails language.now) passes.now (L.seen slot.old))) }
-    ensures left { OnOk result ((slots : List (Slot L.Seen))
-        → IsLeftBy (L.meaning language.now) (L.changes language.now) (L.fails language.now) passes.now
-        slots kept.old facts.old.changed facts.old.failed
-        → IsLeftBy (L.meaning language.now) (L.changes language.now) (L.fails language.now) passes.now
-        (slots ++ L.seen slot.old ∷ []) kept.new facts.new.changed facts.new.failed) }
 {
     let mut at = 0;
     while let Some(i) = next_marked(language, passes, slot, at) {

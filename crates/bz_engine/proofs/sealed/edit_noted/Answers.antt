@@ -2,8 +2,12 @@ use Rattle.std.proofs.Common.{◌≡◌, ◌∙◌, ap, subst, sym}
 use Rattle.bz_engine.specs.Progress.{Progress}
 use Rattle.bz_engine.specs.private.Edits.{run_of}
 use Rattle.bz_engine.specs.private.NextChunks.{ScriptsFound}
-use Rattle.bz_engine.proofs.SealedEdits.{sealed_done}
+use Rattle.bz_engine.proofs.SealedEdits.{made_written, sealed_done}
 use Rattle.bz_engine.proofs.sealed.edit_noted.Goals as goal
+
+pub edit_if_made-requires-clause-written : goal.edit_if_made-requires-clause-written
+edit_if_made-requires-clause-written c =
+    made_written (run_of c.args.script) c.args.found.now c.args.noted c.args.progress.now.line c.in_ok-made.made c.requires.spans c.requires.rule c.in_ok-made.ensures
 
 pub returns : goal.returns
 returns c =

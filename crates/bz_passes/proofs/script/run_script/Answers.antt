@@ -3,7 +3,6 @@ use Rattle.std.proofs.lemmas.Grind.{common_steps}
 use Rattle.bz_passes.proofs.Skips.{Skips, skip_from, fits_on, slot_on, kept_on, some_on, slot_at_end, kept_at_end, some_at_end}
 use Rattle.bz_passes.proofs.Steps.{fits_length, fits_here, fits_after, slot_rest, kept_rest, some_rest, kept_and_fits}
 use Rattle.bz_passes.specs.Exchange.{slot_after, kept_and, kept_alone, some_alone}
-use Rattle.bz_passes.proofs.ExchangeLaw.{left_more}
 use Rattle.bz_passes.proofs.script.run_script.Goals as goal
 
 pub loop-i-init : goal.loop-i-init
@@ -85,6 +84,29 @@ returns-clause-fits g c =
     kept_at_end meaning x passes c.loop-i.kept _ inv.size (kept_on meaning x passes c.loop-i.kept _ at (length passes) (length passes - at) on skips inv.kept) in
     rw all (kept_and_fits meaning passes slot c.args.kept.now c.requires)
 
+pub returns-clause-kept : goal.returns-clause-kept
+returns-clause-kept g c =
+    let meaning = g.L.Language.meaning c.args.language.now in
+    let passes = c.args.passes.now in
+    let at = c.loop-i.at in
+    let inv = c.loop-i.invariant in
+    let x = g.L.Language.seen c.loop-i.slot in
+    let on : length passes ≡ at + (length passes - at) = let w = inv.within in omega arith in
+    let skips : Skips meaning x (drop at passes) (drop at c.loop-i.kept) (length passes - at) = skip_from meaning x passes c.loop-i.kept at (length passes) (length passes - at) on (omega arith) inv.fits c.in_default.ensures in
+    kept_at_end meaning x passes c.loop-i.kept _ inv.size (kept_on meaning x passes c.loop-i.kept _ at (length passes) (length passes - at) on skips inv.kept)
+
+pub returns-clause-changed : goal.returns-clause-changed
+returns-clause-changed g c =
+    let meaning = g.L.Language.meaning c.args.language.now in
+    let changes = g.L.Language.changes c.args.language.now in
+    let passes = c.args.passes.now in
+    let at = c.loop-i.at in
+    let inv = c.loop-i.invariant in
+    let x = g.L.Language.seen c.loop-i.slot in
+    let on : length passes ≡ at + (length passes - at) = let w = inv.within in omega arith in
+    some_at_end meaning changes x passes _ _ (some_on meaning changes x passes c.loop-i.kept at (length passes) (length passes - at) _ _ on
+    (skip_from meaning x passes c.loop-i.kept at (length passes) (length passes - at) on (omega arith) inv.fits c.in_default.ensures) inv.changed)
+
 pub returns-clause-failed : goal.returns-clause-failed
 returns-clause-failed g c =
     let meaning = g.L.Language.meaning c.args.language.now in
@@ -96,21 +118,3 @@ returns-clause-failed g c =
     let on : length passes ≡ at + (length passes - at) = let w = inv.within in omega arith in
     some_at_end meaning fails x passes _ _ (some_on meaning fails x passes c.loop-i.kept at (length passes) (length passes - at) _ _ on
     (skip_from meaning x passes c.loop-i.kept at (length passes) (length passes - at) on (omega arith) inv.fits c.in_default.ensures) inv.failed)
-
-pub returns-clause-left : goal.returns-clause-left
-returns-clause-left g c slots =
-    let meaning = g.L.Language.meaning c.args.language.now in
-    let changes = g.L.Language.changes c.args.language.now in
-    let fails = g.L.Language.fails c.args.language.now in
-    let passes = c.args.passes.now in
-    let kept = c.loop-i.kept in
-    let at = c.loop-i.at in
-    let end = length passes in
-    let inv = c.loop-i.invariant in
-    let x = g.L.Language.seen c.loop-i.slot in
-    let on : end ≡ at + (end - at) = let w = inv.within in omega arith in
-    let skips : Skips meaning x (drop at passes) (drop at kept) (end - at) = skip_from meaning x passes kept at end (end - at) on (omega arith) inv.fits c.in_default.ensures in
-    left_more meaning changes fails passes slots _ _ _ _ _ _ _
-    (kept_at_end meaning x passes kept _ inv.size (kept_on meaning x passes kept _ at end (end - at) on skips inv.kept))
-    (some_at_end meaning changes x passes _ _ (some_on meaning changes x passes kept at end (end - at) _ _ on skips inv.changed))
-    (some_at_end meaning fails x passes _ _ (some_on meaning fails x passes kept at end (end - at) _ _ on skips inv.failed))
