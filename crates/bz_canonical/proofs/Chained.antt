@@ -29,11 +29,11 @@ use Rattle.bz_canonical.specs.private.Chains.{Chains, IsPrimaryFront, IsTailFron
 use Rattle.bz_canonical.proofs.GroupSegments.{most, or_assoc, or_no}
 use Rattle.bz_canonical.proofs.Operands.{name_value, string_value}
 
-join_none : (a : Items) → join a no_items ≡ a
+pub join_none : (a : Items) → join a no_items ≡ a
 join_none no_items = refl
 join_none (item x xs) = ap (item x) (join_none xs)
 
-pub no_tail : (level depth : ℕ) (text : List ℕ) → IsTailFront level depth text text false
+abbrev pub no_tail : (level depth : ℕ) (text : List ℕ) → IsTailFront level depth text text false
 no_tail level depth text = record {
   ys = no_items;
   is = record { texts = tt; kinds = tt; chain = λ a t. subst IsChain (sym (join_none a)) (IsChain.single t); no_for = refl; depth_fits = omega arith; stays = refl };
@@ -66,21 +66,21 @@ value_term level depth text rest h v = record {
     by within first gap e is ys next = rw (is, bytes_append (item_pieces Broken level gap v.x) (items_pieces Broken level within first EdgeOperand ys)) (simp append_assoc)
 
 -- an operand, before members and calls
-operand_primary : (level depth : ℕ) (text rest : List ℕ) (h : Bool) (v : IsValueFront level depth text rest h) → IsOperand v.x → IsPrimaryFront level depth text rest h
+abbrev operand_primary : (level depth : ℕ) (text rest : List ℕ) (h : Bool) (v : IsValueFront level depth text rest h) → IsOperand v.x → IsPrimaryFront level depth text rest h
 operand_primary level depth text rest h v operand = (value_term level depth text rest h v, λ ys are. IsPrimary.operand operand are)
 
-pub string_primary : (text rest : List ℕ) → IsTokenFront String text rest → (level depth : ℕ) → IsPrimaryFront level depth text rest false
+abbrev pub string_primary : (text rest : List ℕ) → IsTokenFront String text rest → (level depth : ℕ) → IsPrimaryFront level depth text rest false
 string_primary text rest f level depth = operand_primary level depth text rest false (string_value text rest f level depth) (IsOperand.text refl)
 
-pub name_primary : (text rest : List ℕ) → IsTokenFront Identifier text rest → (level depth : ℕ) → IsPrimaryFront level depth text rest false
+abbrev pub name_primary : (text rest : List ℕ) → IsTokenFront Identifier text rest → (level depth : ℕ) → IsPrimaryFront level depth text rest false
 name_primary text rest f level depth = operand_primary level depth text rest false (name_value text rest f level depth) (IsOperand.ident refl)
 
-join_assoc : (a b c : Items) → join (join a b) c ≡ join a (join b c)
+pub join_assoc : (a b c : Items) → join (join a b) c ≡ join a (join b c)
 join_assoc no_items b c = refl
 join_assoc (item x xs) b c = ap (item x) (join_assoc xs b c)
 
 -- what `more` puts behind an operand, before what follows that
-joined : (head : Item) (with more : Items → Items) → ((ys : Items) → join (item head (with no_items)) ys ≡ item head (with ys)) → ((ys : Items) → join (more no_items) ys ≡ more ys)
+pub joined : (head : Item) (with more : Items → Items) → ((ys : Items) → join (item head (with no_items)) ys ≡ item head (with ys)) → ((ys : Items) → join (more no_items) ys ≡ more ys)
     → (ys : Items) → join (item head (with (more no_items))) ys ≡ item head (with (more ys))
 joined head with more joins behind ys =
     ap (λ zs. join zs ys) (sym (joins (more no_items)))
@@ -92,7 +92,7 @@ unfolding operators
 dot_text = refl
 
 -- a member of what stands before it
-pub member_primary : (level depth : ℕ) (text rest member end : List ℕ) (h : Bool) → IsPrimaryFront level depth text rest h → rest ≡ 46 ∷ member → IsTokenFront Identifier member end
+abbrev pub member_primary : (level depth : ℕ) (text rest member end : List ℕ) (h : Bool) → IsPrimaryFront level depth text rest h → rest ≡ 46 ∷ member → IsTokenFront Identifier member end
     → IsPrimaryFront level depth text end h
 member_primary level depth text rest member end h p dot f = (
   record {
@@ -120,7 +120,7 @@ member_primary level depth text rest member end h p dot f = (
     by P next = simp append_assoc
 
 -- a call of what stands before it
-pub call_primary : (level depth : ℕ) (text rest end : List ℕ) (h k : Bool) → IsPrimaryFront level depth text rest h → IsGroupFront Call level depth rest end k → IsPrimaryFront level depth text end (h || k)
+abbrev pub call_primary : (level depth : ℕ) (text rest end : List ℕ) (h k : Bool) → IsPrimaryFront level depth text rest h → IsGroupFront Call level depth rest end k → IsPrimaryFront level depth text end (h || k)
 call_primary level depth text rest end h k p g = (
   record {
     head = p.0.head;
@@ -165,20 +165,20 @@ nodes_of level depth text rest next h k t y = record {
 }
 
 -- an operator between operands, in the layout and in the grammar
-record IsInfixWord (o : List ℕ) : Type 0 where
-  text : is_text Operator o ≡ true
-  mark : is_leaf_mark (operator_mark o) ≡ true
-  role : is_operator (operator_role o) ≡ true
-  comma : is_comma (leaf Operator o) ≡ false
-  apart : no_space_before (leaf Operator o) ≡ false
-  dot : bytes_eq o (codes ".") ≡ false
-  colon : bytes_eq o (codes ":") ≡ false
+pub record IsInfixWord (o : List ℕ) : Type 0 where
+  pub text : is_text Operator o ≡ true
+  pub mark : is_leaf_mark (operator_mark o) ≡ true
+  pub role : is_operator (operator_role o) ≡ true
+  pub comma : is_comma (leaf Operator o) ≡ false
+  pub apart : no_space_before (leaf Operator o) ≡ false
+  pub dot : bytes_eq o (codes ".") ≡ false
+  pub colon : bytes_eq o (codes ":") ≡ false
 
 infix_of : (o : List ℕ) → is_text Operator o ≡ true → is_leaf_mark (operator_mark o) ≡ true → is_operator (operator_role o) ≡ true → is_comma (leaf Operator o) ≡ false → no_space_before (leaf Operator o) ≡ false
     → bytes_eq o (codes ".") ≡ false → bytes_eq o (codes ":") ≡ false → IsInfixWord o
 infix_of o text mark role comma apart dot colon = record { text = text; mark = mark; role = role; comma = comma; apart = apart; dot = dot; colon = colon }
 
-infix_words : AllByRecursion (λ b. IsInfixWord (b ∷ [])) (codes "%*+-/<>|")
+pub infix_words : AllByRecursion (λ b. IsInfixWord (b ∷ [])) (codes "%*+-/<>|")
 unfolding operators
 infix_words = (
   infix_of _ refl refl refl refl refl refl refl,
@@ -200,7 +200,7 @@ infix_words = (
   ),
 )
 
-infix_word : (b : ℕ) (bs : List ℕ) → AllByRecursion (λ b. IsInfixWord (b ∷ [])) bs → list_any (λ c. b == c) bs ≡ true → IsInfixWord (b ∷ [])
+pub infix_word : (b : ℕ) (bs : List ℕ) → AllByRecursion (λ b. IsInfixWord (b ∷ [])) bs → list_any (λ c. b == c) bs ≡ true → IsInfixWord (b ∷ [])
 infix_word b [] all is = absurd (false≢true is)
 infix_word b (c ∷ cs) all is = by (b == c) refl is (infix_word b cs all.1)
   where
@@ -209,7 +209,7 @@ infix_word b (c ∷ cs) all is = by (b == c) refl is (infix_word b cs all.1)
     by false other is others = others is
 
 -- after an operand it is no prefix, whatever it stands in
-infix_edge : (within : Option GroupKind) (o : List ℕ) → IsInfixWord o → edge_after within EdgeOperand (leaf Operator o) ≡ EdgeOperator
+pub infix_edge : (within : Option GroupKind) (o : List ℕ) → IsInfixWord o → edge_after within EdgeOperand (leaf Operator o) ≡ EdgeOperator
 infix_edge within o word = rw (word.dot, no_colon within) refl
   where
     no_colon : (within : Option GroupKind) → is_index_colon within o ≡ false
@@ -217,7 +217,7 @@ infix_edge within o word = rw (word.dot, no_colon within) refl
     no_colon _ = refl
 
 -- an operator and an operand, before what follows it
-infix_tail : (level depth : ℕ) (text value rest next : List ℕ) (h k : Bool) (o : ℕ) → IsInfixWord (o ∷ []) → text ≡ 32 ∷ o ∷ 32 ∷ value → IsTermFront level depth value rest h
+abbrev pub infix_tail : (level depth : ℕ) (text value rest next : List ℕ) (h k : Bool) (o : ℕ) → IsInfixWord (o ∷ []) → text ≡ 32 ∷ o ∷ 32 ∷ value → IsTermFront level depth value rest h
     → IsTailFront level depth rest next k → IsTailFront level depth text next (h || k)
 infix_tail level depth text value rest next h k o word is t y = record {
   ys = item between (item t.head (t.with y.ys));

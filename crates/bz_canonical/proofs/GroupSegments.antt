@@ -266,7 +266,7 @@ nodes_segment kind level depth text rest h v grammar = record {
 }
 
 -- an element
-pub element_segment : (level depth : ℕ) (text rest : List ℕ) (h : Bool) → AreNodesFront level depth text rest h → IsSegmentFront ListKind level depth text rest h
+abbrev pub element_segment : (level depth : ℕ) (text rest : List ℕ) (h : Bool) → AreNodesFront level depth text rest h → IsSegmentFront ListKind level depth text rest h
 element_segment level depth text rest h v = nodes_segment ListKind level depth text rest h v v.are.test
 
 pub argument_of : (kind : GroupKind) → is_call kind ≡ true → (xs : Items) → IsArg xs → IsOf kind xs
@@ -281,7 +281,7 @@ argument_of ListComp is xs a = absurd (false≢true is)
 argument_of DictComp is xs a = absurd (false≢true is)
 
 -- an argument by its place
-pub positional_segment : (kind : GroupKind) (level depth : ℕ) (text rest : List ℕ) (h : Bool) → is_call kind ≡ true → AreNodesFront level depth text rest h → IsSegmentFront kind level depth text rest h
+abbrev pub positional_segment : (kind : GroupKind) (level depth : ℕ) (text rest : List ℕ) (h : Bool) → is_call kind ≡ true → AreNodesFront level depth text rest h → IsSegmentFront kind level depth text rest h
 positional_segment kind level depth text rest h call v = nodes_segment kind level depth text rest h v (argument_of kind call (item v.x v.xs) (IsArg.positional v.are.test))
 
 pub equals_text : is_text Operator (codes "=") ≡ true
@@ -344,7 +344,7 @@ abbrev pub keyword_segment : (kind : GroupKind) (level depth : ℕ) (text equals
 keyword_segment kind level depth text equals rest value h call f eq v = named_segment kind level depth text equals rest value h f eq v (argument_of kind call _ (IsArg.keyword refl refl v.are.test))
 
 -- an entry of a dict
-pub entry_segment : (level depth : ℕ) (text colon rest value : List ℕ) (h : Bool) → IsValueFront level depth text colon false
+abbrev pub entry_segment : (level depth : ℕ) (text colon rest value : List ℕ) (h : Bool) → IsValueFront level depth text colon false
     → colon ≡ codes ": " ++ value → AreNodesFront level depth value rest h → IsSegmentFront Dict level depth text rest h
 entry_segment level depth text colon rest value h k eq v = record {
   xs = item k.x (item (leaf Operator (codes ":")) (item v.x v.xs));

@@ -3,6 +3,12 @@ pub mod Strings
 pub mod Tokens
 pub mod Taken
 pub mod Operands
+pub mod OtherwiseValues
+pub mod OtherwiseSegments
+pub mod OtherwiseSteps
+pub mod OtherwiseGroups
+pub mod OtherwiseForms
+pub mod OtherwiseArguments
 pub mod GroupSegments
 pub mod Chained
 pub mod RuleCalls

@@ -70,7 +70,7 @@ name_value text rest f level depth = record {
   breaks = refl;
 }
 
-pub number_value : (text rest : List ℕ) → IsTokenFront Integer text rest → (level depth : ℕ) → IsValueFront level depth text rest false
+abbrev pub number_value : (text rest : List ℕ) → IsTokenFront Integer text rest → (level depth : ℕ) → IsValueFront level depth text rest false
 number_value text rest f level depth = record {
   x = leaf Integer f.token;
   is = record {
@@ -152,11 +152,11 @@ flat_group kind level depth below inside end rest z n h deeper closes s few ends
         ≡ (gap_bytes gap ++ (opening kind ++ bytes_of (if breaks Broken b then A else flat_segs Broken level kind true s.segs ++ ([] ++ piece Closed Operator o ∷ [])))) ++ rest
     by gap b e1 o e2 A = rw (e1, e2) (body (flat_segs Broken level kind true s.segs) (gap_bytes gap))
 
-absurd_of : {A : Type 0} → false ≡ true → A
+pub absurd_of : {A : Type 0} → false ≡ true → A
 absurd_of h = absurd (false≢true h)
 
 -- a list or a dict as an operand
-pub list_value : (level depth : ℕ) (text rest : List ℕ) (h : Bool) → IsGroupFront ListKind level depth text rest h → IsValueFront level depth text rest h
+abbrev pub list_value : (level depth : ℕ) (text rest : List ℕ) (h : Bool) → IsGroupFront ListKind level depth text rest h → IsValueFront level depth text rest h
 list_value level depth text rest h g = record {
   x = group ListKind g.segs false g.end;
   is = record {
@@ -175,7 +175,7 @@ list_value level depth text rest h g = record {
   breaks = g.breaks;
 }
 
-pub dict_value : (level depth : ℕ) (text rest : List ℕ) (h : Bool) → IsGroupFront Dict level depth text rest h → IsValueFront level depth text rest h
+abbrev pub dict_value : (level depth : ℕ) (text rest : List ℕ) (h : Bool) → IsGroupFront Dict level depth text rest h → IsValueFront level depth text rest h
 dict_value level depth text rest h g = record {
   x = group Dict g.segs false g.end;
   is = record {

@@ -21,7 +21,7 @@ pub pend_first : (text front rest : List ℕ) → text ≡ front ++ rest → IsP
 pend_first text front rest is = record { part = front; front = is; all_is = refl; whole = λ none. refl }
 
 -- a value goes into the buffer, after what was pending
-pub pend_value : (text old new begun from at value end next front back w put : List ℕ) → IsPending text old begun from at → at ≡ front ++ value → end ≡ back ++ next → 0 < length w → put ≡ take (length from - length value) from
+pub pend_value : (text old new begun from at value end next front back w put : List ℕ) → IsPending text old begun from at → at ≡ front ++ value → end ≡ back ++ next → 0 < length front → put ≡ take (length from - length value) from
     → new ≡ (old ++ put) ++ w → IsPending text new (begun ++ (front ++ (w ++ back))) end next
 pend_value text old new begun from at value end next front back w put p at_is end_is filled put_is new_is =
     let front_is : from ≡ (p.part ++ front) ++ value = p.front ∙ ap (λ (t : List ℕ). p.part ++ t) at_is ∙ sym (append_assoc p.part front value) in
@@ -30,11 +30,12 @@ pend_value text old new begun from at value end next front back w put p at_is en
       part = back;
       front = end_is;
       all_is = ap (λ (t : List ℕ). t ++ (front ++ (w ++ back))) p.all_is ∙ joined old p.part front w back ∙ ap (λ (t : List ℕ). t ++ back) (sym all);
-      whole = λ none. absurd (some (old ++ put) w filled (sym new_is ∙ none));
+      whole = λ none. absurd (some (sym all ∙ none));
     }
   where
     joined : (o p f w b : List ℕ) → (o ++ p) ++ (f ++ (w ++ b)) ≡ ((o ++ (p ++ f)) ++ w) ++ b
     joined o p f w b = simp append_assoc
 
-    some : (x w : List ℕ) → 0 < length w → x ++ w ≡ [] → ⊥
-    some x w filled none = omega (arith, length-append x w, ap length none, filled)
+    some : (old ++ (p.part ++ front)) ++ w ≡ [] → ⊥
+    some none =
+        omega (arith, length-append (old ++ (p.part ++ front)) w, length-append old (p.part ++ front), length-append p.part front, ap length none, filled)

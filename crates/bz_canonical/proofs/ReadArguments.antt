@@ -3,6 +3,7 @@ use Rattle.std.proofs.Common.{subst, ◌||◌, ◌≡◌, ◌≤◌, ◌<◌, �
 use Rattle.std.specs.Prelude.{codes, flat_map, map, nat_le, not, Some, if◌then◌else◌, Option}
 use Rattle.std.proofs.lemmas.Bool.{false≢true}
 use Rattle.std.proofs.lemmas.Bool.Decides.{nat_tests}
+use Rattle.std.proofs.lemmas.List.{length-append}
 use Rattle.bz_token.specs.declared.token.Kind.TheVariants.{Identifier, Operator, String}
 use Rattle.bz_tree.specs.declared.tree.kinds.Preceding.TheVariants.{Other}
 use Rattle.bz_tree.specs.declared.tree.kinds.Shape.TheVariants.{Square}
@@ -117,9 +118,12 @@ list_is_placed depth notes word breaks es suffix deep above is are stands side =
   spelled = ap (λ ss. item (leaf Identifier word) (item (leaf Operator (codes "=")) (item (group ListKind ss false []) no_items))) (element_spelled es);
 }
 
+pub head_some : (C X : List ℕ) → 0 < length (C ++ (10 ∷ X))
+head_some C X = omega (arith, length-append C (10 ∷ X))
+
 -- one that stands otherwise
 pub list_read : (depth : ℕ) (attr text value end comma next w : List ℕ) (e named : Bool) → 0 < depth → IsHeadRead attr text value named → IsListRead value end w → end ≡ 44 ∷ comma → IsBesideFront comma next e
-    → (front back : List ℕ) × (text ≡ front ++ value) × (end ≡ back ++ next) × (0 < length w) × (read : IsArgumentRead depth attr text next (front ++ (w ++ back)) named)
+    → (front back : List ℕ) × (text ≡ front ++ value) × (end ≡ back ++ next) × (0 < length front) × (read : IsArgumentRead depth attr text next (front ++ (w ++ back)) named)
     × (end ≡ 44 ∷ (bytes_of (suffix_piece read.placed.arg.suffix) ++ next))
 list_read depth attr text value end comma next w e named deep h l is side =
     let es : List Element = l.elements in
@@ -132,7 +136,7 @@ list_read depth attr text value end comma next w e named deep h l is side =
       44 ∷ S,
       begins,
       ends,
-      omega (arith, ap length l.spells),
+      head_some C (indent 1 ++ (h.word ++ codes " = ")),
       record {
         placed = list_placed h.notes h.word l.breaks es side.note;
         is = list_is_placed depth h.notes h.word l.breaks es side.note deep h.are h.is l.are l.stands side.is;

@@ -16,3 +16,4 @@ pub mod Listed
 pub mod NewValues
 pub mod SetList
 pub mod Noted
+pub mod Otherwise

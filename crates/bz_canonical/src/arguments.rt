@@ -5,13 +5,14 @@ ghost use Rattle.std.specs.Prelude.{◌≡◌, ◌<◌, ℕ, List, length, IfOk,
 ghost use Rattle.bz_tree.specs.declared.tree.GroupKind.TheVariants.{RuleCall};
 ghost use Rattle.bz_canonical.specs.private.Segments.{AreNotesFront, AreSegmentsFront};
 ghost use Rattle.bz_canonical.specs.private.Values.{AreNodesFront};
-ghost use Rattle.bz_canonical.specs.private.Arguments.{AreArgumentsRead, AreEnded, AreRead, IsNameRead, IsValueEnd, ReadsListArgument};
-ghost use Rattle.bz_canonical.specs.private.Pendings.{IsPending, Reads, pending};
+ghost use Rattle.bz_canonical.specs.private.Arguments.{AreArgumentsRead, AreEnded, AreRead, IsNameRead, IsValueEnd, ReadsOtherwise};
+ghost use Rattle.bz_canonical.specs.private.Pendings.{Grows, IsPending, Reads, pending};
 
 use crate::Known;
 use crate::comments::after_comments;
 use crate::front::{Word, after_identifier, after_line, after_word, before};
 use crate::lists::{after_comma, put_list};
+use crate::otherwise::{Levels, put_nodes};
 use crate::segments::{AfterLines, after_segments};
 use crate::string_list::after_string_list;
 use crate::value::{Value, after_first, after_nodes, either};
@@ -107,18 +108,19 @@ fn after_argument_value(value: &[u8], depth: u8) -> Option<&[u8]>
 }
 
 /// Passes the argument here, whose name was read, where its value is a list of strings that stands otherwise than it is
-/// written, and a bracket may be open. The list goes into the buffer, after what is pending. What is pending then
-/// begins with the comma.
+/// written, and a bracket may be open. The list goes into the buffer, after what is pending, or a part of it, where it is
+/// none. What is pending then begins with the comma.
 #[inline(never)]
-pub(crate) fn put_list_argument<'t>(
+fn put_list_argument<'t>(
     at: Pending<'t>,
     value: &'t [u8],
     depth: u8,
     written: &mut Vec<u8>,
 ) -> Known<Pending<'t>>
     requires { depth < 254 }
-    ensures { IfOk result (λ known. IfSome known
-        (ReadsListArgument depth at.entry value.now written.old.items written.new.items)) }
+    ensures grows { IfOk result (λ known. Grows written.old.items written.new.items) }
+    ensures reads { IfOk result (λ known. IfSome known
+        (ReadsOtherwise depth at.entry value.now written.old.items written.new.items)) }
 {
     if depth == 0 {
         return Ok(None);
@@ -137,6 +139,62 @@ pub(crate) fn put_list_argument<'t>(
         from: end,
         rest: side.rest,
     }))
+}
+
+/// Passes the argument here, whose name was read, where its value stands otherwise than it is written, as
+/// `put_list_argument` does, whatever the value is.
+#[inline(never)]
+fn put_value_argument<'t>(
+    at: Pending<'t>,
+    value: &'t [u8],
+    depth: u8,
+    written: &mut Vec<u8>,
+) -> Known<Pending<'t>>
+    requires { depth < 254 }
+    ensures { IfOk result (λ known. IfSome known
+        (ReadsOtherwise depth at.entry value.now written.old.items written.new.items)) }
+{
+    let Some(front) = before(at.from, value.len()) else {
+        return Ok(None);
+    };
+    extend_from_slice(written, front)?;
+    let levels = Levels {
+        stands: 1,
+        out: 1,
+        depth,
+    };
+    let Some(read) = put_nodes(value, levels, written)? else {
+        return Ok(None);
+    };
+    let Some(side) = after_comma(read.rest) else {
+        return Ok(None);
+    };
+    Ok(Some(Pending {
+        from: read.rest,
+        rest: side.rest,
+    }))
+}
+
+/// Passes the argument here, whose name was read, where its value stands otherwise than it is written. The value goes into
+/// the buffer as it would be written, after what is pending. What is pending then begins with the comma.
+#[inline(always)]
+pub(crate) fn put_otherwise<'t>(
+    at: Pending<'t>,
+    value: &'t [u8],
+    depth: u8,
+    written: &mut Vec<u8>,
+) -> Known<Pending<'t>>
+    requires { depth < 254 }
+    ensures { IfOk result (λ known. IfSome known
+        (ReadsOtherwise depth at.entry value.now written.old.items written.new.items)) }
+{
+    let len = written.len();
+    // Most are lists of strings.
+    if let Some(next) = put_list_argument(at, value, depth, written)? {
+        return Ok(Some(next));
+    }
+    written.truncate(len);
+    put_value_argument(at, value, depth, written)
 }
 
 /// Arguments that have names.
@@ -170,7 +228,7 @@ fn pass_named<'t>(from: Pending<'t>, depth: u8, written: &mut Vec<u8>) -> Known<
             };
             continue;
         }
-        let Some(next) = put_list_argument(at, head.value, depth, written)? else {
+        let Some(next) = put_otherwise(at, head.value, depth, written)? else {
             return Ok(None);
         };
         at = next;

@@ -25,7 +25,7 @@ pub(crate) fn brackets(kind: GroupKind) -> (u8, u8)
 
 /// Whether a group without comments stands on lines, by whether it has one segment, has two, and one of them holds a
 /// group on lines.
-fn breaks(kind: GroupKind, one: bool, two: bool, holds: bool) -> bool
+pub(crate) fn breaks(kind: GroupKind, one: bool, two: bool, holds: bool) -> bool
     ensures { (n : ℕ) → one ≡ nat_le 1 n → two ≡ nat_le 2 n
         → result ≡ (breaks_by_count kind n || (nat_le 2 n && holds)) }
 {

@@ -2,8 +2,8 @@
 //!
 //! `read_canonical` recognizes what `bz_layout` writes, and not the whole language: rules, loads on one line,
 //! assignments and comment lines, of values with the spaces, lines and double quotes of the layout. What it accepts is
-//! read back as a statement, of which the layout writes the same text. In rules it also recognizes lists of strings
-//! that stand otherwise, and writes these as the layout does.
+//! read back as a statement, of which the layout writes the same text. In rules it also recognizes values whose groups
+//! stand otherwise, on lines or in place, and writes these as the layout does.
 //!
 //! `after_x` gives what follows x at the front of a text; `read_x` also what x says; `put_x` appends to the buffer.
 #![tactic(auto)]
@@ -21,11 +21,15 @@ mod found;
 mod found_value;
 mod front;
 mod group;
+mod guess;
 pub mod laws;
 mod listed;
 mod lists;
 mod load;
 mod named_rule;
+mod otherwise;
+mod otherwise_groups;
+mod otherwise_segments;
 mod place;
 mod removed;
 mod replaced;

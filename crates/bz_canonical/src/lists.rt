@@ -4,6 +4,7 @@ ghost use Rattle.std.specs.Prelude.{◌≡◌, ◌∷◌, ◌++◌, ℕ, Bool, L
 ghost use Rattle.bz_layout.specs.Pieces.{indent};
 ghost use Rattle.bz_canonical.specs.private.Segments.{IsBesideFront};
 ghost use Rattle.bz_canonical.specs.private.Elements.{AreElementsRead, IsElementRead, IsLast, IsListRead, separator, closing, element_written};
+ghost use Rattle.bz_canonical.specs.private.Pendings.{Grows};
 ghost use Rattle.bz_canonical.specs.private.Strings.{IsStringRead, spelling};
 
 use crate::Known;
@@ -66,7 +67,8 @@ fn put_string(read: ReadString<'_>, written: &mut Vec<u8>) -> Result<(), NoMemor
 
 /// What follows the list of strings here, and puts it into the buffer as it would be written.
 pub(crate) fn put_list<'t>(text: &'t [u8], written: &mut Vec<u8>) -> Known<&'t [u8]>
-    ensures { IfOk result (λ known. IfSome known (λ rest. (w : List ℕ)
+    ensures grows { IfOk result (λ known. Grows written.old.items written.new.items) }
+    ensures reads { IfOk result (λ known. IfSome known (λ rest. (w : List ℕ)
         × (written.new.items ≡ written.old.items ++ w) × IsListRead text.now rest.now w)) }
 {
     let Some(inside) = after(text, b'[') else {
@@ -110,7 +112,8 @@ fn put_elements<'t>(
     written: &mut Vec<u8>,
 ) -> Known<&'t [u8]>
     requires { IsElementRead lines false inside.now first }
-    ensures { IfOk result (λ known. IfSome known (λ rest. (w : List ℕ)
+    ensures grows { IfOk result (λ known. Grows written.old.items written.new.items) }
+    ensures reads { IfOk result (λ known. IfSome known (λ rest. (w : List ℕ)
         × (written.new.items ≡ written.old.items ++ w) × AreElementsRead inside.now rest.now w true true)) }
 {
     put_element(first, written)?;

@@ -10,7 +10,7 @@ ghost use Rattle.bz_canonical.specs.private.Arguments.{ReadsUpTo};
 
 use crate::Known;
 use crate::arguments::{
-    ArgumentEnd, NamedArguments, Pending, pass_last, put_list_argument, read_argument_end,
+    ArgumentEnd, NamedArguments, Pending, pass_last, put_otherwise, read_argument_end,
     read_argument_name, written_len,
 };
 use crate::front::{are_same, before};
@@ -85,7 +85,7 @@ fn note_value<'t>(
         };
         return Ok(Some(NotedValue { at, comma }));
     }
-    let Some(at) = put_list_argument(at, value, depth, written)? else {
+    let Some(at) = put_otherwise(at, value, depth, written)? else {
         return Ok(None);
     };
     Ok(Some(NotedValue { at, comma: at.from }))

@@ -1,9 +1,10 @@
 //! Values that stand as they would be written: operands, their members and calls, and operators between them.
 
-ghost use Rattle.std.specs.Prelude.{◌≡◌, ◌+◌, ◌<◌, ◌||◌, ℕ, Bool, List, IfSome, false};
+ghost use Rattle.std.specs.Prelude.{◌≡◌, ◌+◌, ◌<◌, ◌++◌, ◌||◌, ℕ, Bool, List, IfSome, false};
 ghost use Rattle.bz_token.specs.declared.token.Kind.TheVariants.{String};
 ghost use Rattle.bz_canonical.specs.private.Chains.{Chains, IsPrimaryFront, IsTermFront};
 ghost use Rattle.bz_canonical.specs.private.Fronts.{IsTokenFront};
+ghost use Rattle.bz_canonical.specs.private.Otherwise.{IsPrimaryWritten, IsValueWritten};
 ghost use Rattle.bz_canonical.specs.private.Values.{AreNodesFront, IsValueFront};
 
 use crate::front::{
@@ -32,7 +33,9 @@ pub(crate) fn either(a: bool, b: bool) -> bool
 /// What follows the string, number or name here.
 #[inline(always)]
 pub(crate) fn after_leaf(text: &[u8]) -> Option<&[u8]>
-    ensures { IfSome result (λ rest. (level depth : ℕ) → IsValueFront level depth text.now rest.now false) }
+    ensures front { IfSome result (λ rest. (level depth : ℕ) → IsValueFront level depth text.now rest.now false) }
+    ensures written { IfSome result (λ rest. (w : List ℕ) × (text.now ≡ w ++ rest.now)
+        × ((stands out depth : ℕ) → IsValueWritten stands out depth text.now rest.now w false)) }
 {
     match text {
         [b'"', ..] => after_string(text),
@@ -91,8 +94,10 @@ fn after_name_or_call(text: &[u8], level: u8, depth: u8) -> Option<Value<'_>>
 
 /// What follows the string or name here.
 #[inline(always)]
-fn after_word_or_string(text: &[u8]) -> Option<&[u8]>
-    ensures { IfSome result (λ rest. (level depth : ℕ) → IsPrimaryFront level depth text.now rest.now false) }
+pub(crate) fn after_word_or_string(text: &[u8]) -> Option<&[u8]>
+    ensures front { IfSome result (λ rest. (level depth : ℕ) → IsPrimaryFront level depth text.now rest.now false) }
+    ensures written { IfSome result (λ rest. (w : List ℕ) × (text.now ≡ w ++ rest.now)
+        × ((stands out depth : ℕ) → IsPrimaryWritten stands out depth text.now rest.now w false)) }
 {
     match text {
         [b'"', ..] => after_string(text),

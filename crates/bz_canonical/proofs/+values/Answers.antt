@@ -98,7 +98,7 @@ pub segments::after_segment-returns-in_ok-rest-in-Dict : goal.segments::after_se
 segments::after_segment-returns-in_ok-rest-in-Dict m c =
     subst (λ k. IsSegmentFront k c.args.level c.args.depth c.args.text.now c.in_ok-rest-in-Dict.field-0.rest.now c.in_ok-rest-in-Dict.field-0.holds) (sym c.in-Dict.is)
     (entry_segment c.args.level c.args.depth c.args.text.now c.in_ok-colon-in-Dict.colon.now c.in_ok-rest-in-Dict.field-0.rest.now c.in_ok-value-in-Dict.value.now c.in_ok-rest-in-Dict.field-0.holds
-    (c.in_ok-colon-in-Dict.ensures c.args.level c.args.depth) c.in_ok-value-in-Dict.ensures c.in_ok-rest-in-Dict.ensures)
+    (c.in_ok-colon-in-Dict.ensures.front c.args.level c.args.depth) c.in_ok-value-in-Dict.ensures c.in_ok-rest-in-Dict.ensures)
 
 pub segments::after_segment-returns-in_ok-rest-in-123 : goal.segments::after_segment-returns-in_ok-rest-in-123
 segments::after_segment-returns-in_ok-rest-in-123 m c =
@@ -141,15 +141,15 @@ value::after_term-returns-in_ok-rest-in-48-to-57 m c =
     value_term c.args.level c.args.depth c.args.text.now rest false (number_value c.args.text.now rest c.in_ok-rest-in-48-to-57.ensures c.args.level c.args.depth)
 
 pub value::after_name_or_call-returns-in_default : goal.value::after_name_or_call-returns-in_default
-value::after_name_or_call-returns-in_default m c = (c.in_ok-end.ensures c.args.level c.args.depth).0
+value::after_name_or_call-returns-in_default m c = (c.in_ok-end.ensures.front c.args.level c.args.depth).0
 
 pub value::after_name_or_call-returns-in_ok-rest-in-40 : goal.value::after_name_or_call-returns-in_ok-rest-in-40
 value::after_name_or_call-returns-in_ok-rest-in-40 m c =
     let read = c.in_ok-rest-in-40.field-0 in
-    (call_primary c.args.level c.args.depth c.args.text.now c.in_ok-end.end.now read.rest.now false read.holds (c.in_ok-end.ensures c.args.level c.args.depth) c.in_ok-rest-in-40.ensures).0
+    (call_primary c.args.level c.args.depth c.args.text.now c.in_ok-end.end.now read.rest.now false read.holds (c.in_ok-end.ensures.front c.args.level c.args.depth) c.in_ok-rest-in-40.ensures).0
 
 pub value::after_name_or_call-returns-in_ok-rest-in-46 : goal.value::after_name_or_call-returns-in_ok-rest-in-46
-value::after_name_or_call-returns-in_ok-rest-in-46 m c = (c.in_ok-rest-in-46.ensures c.args.text.now (c.in_ok-end.ensures c.args.level c.args.depth)).0
+value::after_name_or_call-returns-in_ok-rest-in-46 m c = (c.in_ok-rest-in-46.ensures c.args.text.now (c.in_ok-end.ensures.front c.args.level c.args.depth)).0
 
 pub value::after_suffixes-loop-preserved-in-Some : goal.value::after_suffixes-loop-preserved-in-Some
 value::after_suffixes-loop-preserved-in-Some m c = λ text p.

@@ -93,5 +93,5 @@ ReadsUpTo depth at value old new next comma = (attr : List ℕ) (named : Bool) �
     → Reads old (pending at) new (pending next) (λ begun w. (read : IsArgumentRead depth attr at.rest.now next.rest.now w named)
     × (comma ≡ 44 ∷ (bytes_of (suffix_piece read.placed.arg.suffix) ++ next.rest.now)))
 
-abbrev pub ReadsListArgument : ℕ → Pending → List ℕ → List ℕ → List ℕ → Pending → Type 0
-ReadsListArgument depth at value old new next = ReadsUpTo depth at value old new next next.from.now
+abbrev pub ReadsOtherwise : ℕ → Pending → List ℕ → List ℕ → List ℕ → Pending → Type 0
+ReadsOtherwise depth at value old new next = ReadsUpTo depth at value old new next next.from.now

@@ -15,6 +15,10 @@ pub record IsPending (text buffer all from rest : List ℕ) : Type 0 where
   pub all_is : all ≡ buffer ++ part
   pub whole : buffer ≡ [] → from ≡ text
 
+-- what the buffer had is its front
+abbrev pub Grows : List ℕ → List ℕ → Type 0
+Grows old new = (w : List ℕ) × (new ≡ old ++ w)
+
 -- What is read on the way, after `begun`, and what is written of it. Ends of a way: `from` and `to` of what is pending.
 abbrev pub Reads : List ℕ → Ends → List ℕ → Ends → (List ℕ → List ℕ → Type 0) → Type 0
 Reads old start new end IsRead = (text begun : List ℕ) → IsPending text old begun start.from start.to → (w : List ℕ) × IsPending text new (begun ++ w) end.from end.to × IsRead begun w

@@ -1,6 +1,6 @@
 use Rattle.std.proofs.Common.{◌++◌, ℕ, List, [], append-nil, append_assoc, sym, subst, bytes_eq}
 use Rattle.std.specs.Prelude.{IfSome}
-use Rattle.bz_canonical.specs.private.Arguments.{ReadsListArgument}
+use Rattle.bz_canonical.specs.private.Arguments.{ReadsOtherwise}
 use Rattle.bz_canonical.proofs.Pendings.{pend_more, pend_same}
 use Rattle.bz_canonical.proofs.ReadArguments.{none_read, one_more, value_read}
 use Rattle.bz_canonical.proofs.arguments.pass_named.Goals as goal
@@ -18,10 +18,10 @@ loop-preserved c = λ text begun p.
     let next = c.in-Some-2.next in
     let name : List ℕ = c.in-Some.head.name.now in
     let i = c.loop.invariant text begun p in
-    let puts = subst (λ o. IfSome o (λ next. ReadsListArgument c.args.depth at c.in-Some.head.value.now c.loop.written.items c.put_list_argument.new.written.items next)) c.in-Some-2.is c.in_ok-next.ensures in
+    let puts = subst (λ o. IfSome o (λ next. ReadsOtherwise c.args.depth at c.in-Some.head.value.now c.loop.written.items c.put_otherwise.new.written.items next)) c.in-Some-2.is c.in_ok-next.ensures in
     let one = puts name (bytes_eq name name) (c.in-Some.ensures name).0 text (begun ++ i.0) i.1 in (
       i.0 ++ one.0,
-      pend_same text c.put_list_argument.new.written.items ((begun ++ i.0) ++ one.0) next.from.now next.rest.now (begun ++ (i.0 ++ one.0)) one.1 (append_assoc begun i.0 one.0),
+      pend_same text c.put_otherwise.new.written.items ((begun ++ i.0) ++ one.0) next.from.now next.rest.now (begun ++ (i.0 ++ one.0)) one.1 (append_assoc begun i.0 one.0),
       one_more c.args.depth name c.args.from.rest.now at.rest.now next.rest.now i.0 one.0 c.loop.one (bytes_eq name name) i.2 one.2.0,
     )
 

@@ -17,8 +17,8 @@ loop-preserved c =
       passed_others c.args.lines c.loop.broken c.args.inside.now c.loop.rest.now i.0 next i.2 c.in-Some-read_element.ensures,
     )
 
-pub returns-in-Some : goal.returns-in-Some
-returns-in-Some c =
+pub returns-in-Some-clause-reads : goal.returns-in-Some-clause-reads
+returns-in-Some-clause-reads c =
     let i = c.loop.invariant in
     rw c.then_some.ensures (told c.loop.broken i.0 i.1 (elements_read c.args.lines true c.loop.broken c.args.inside.now c.loop.rest.now c.in-Some.end.now i.0 i.2 c.in-Some.ensures))
   where
