@@ -141,6 +141,9 @@ fn put_list_argument<'t>(
     }))
 }
 
+// Groups in groups that are gone over: what stands in a group is looked at once more for each group round it.
+const NESTED: u8 = 8;
+
 /// Passes the argument here, whose name was read, where its value stands otherwise than it is written, as
 /// `put_list_argument` does, whatever the value is.
 #[inline(never)]
@@ -162,6 +165,7 @@ fn put_value_argument<'t>(
         stands: 1,
         out: 1,
         depth,
+        left: NESTED,
     };
     let Some(read) = put_nodes(value, levels, written)? else {
         return Ok(None);

@@ -23,6 +23,8 @@ pub(crate) struct Levels {
     pub(crate) out: u8,
     /// So many brackets may be open in it.
     pub(crate) depth: u8,
+    /// So many groups in groups are gone over.
+    pub(crate) left: u8,
 }
 
 /// Writes what stands before the rest of a text.

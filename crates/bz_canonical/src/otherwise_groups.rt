@@ -43,7 +43,7 @@ pub(crate) fn put_group<'t>(
     ensures { IfOk result (λ known. IfSome known (λ read. Writes written.old.items written.new.items
         (λ w. IsGroupWritten kind at.stands at.out at.depth text.now read.rest.now w read.holds))) }
 {
-    if at.depth == 0 {
+    if at.depth == 0 || at.left == 0 {
         return Ok(None);
     }
     let Some(inside) = after(text, brackets(kind).0) else {
@@ -90,6 +90,7 @@ fn levels_inside(form: GroupForm, at: Levels) -> Levels
         stands: level_inside(form.lines, at.stands),
         out: level_inside(form.broken, at.out),
         depth: at.depth - 1,
+        left: at.left.saturating_sub(1),
     }
 }
 
