@@ -13,6 +13,9 @@ pub mod GroupSegments
 pub mod Chained
 pub mod RuleCalls
 pub mod BareStatements
+pub mod SoughtSpans
+pub mod SoughtRules
+pub mod SoughtValues
 pub mod StatementFronts
 pub mod CanonicalChunks
 pub mod ArgumentLines

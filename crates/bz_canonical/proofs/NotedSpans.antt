@@ -24,6 +24,7 @@ use Rattle.bz_canonical.specs.private.Arguments.{IsArgumentRead}
 use Rattle.bz_canonical.specs.private.Placed.{Placed, args_of, placed_lines}
 use Rattle.bz_canonical.proofs.ArgumentLines.{lines_append}
 use Rattle.bz_canonical.proofs.SingleStrings.{bytes_same}
+use Rattle.bz_canonical.proofs.SoughtValues.{literal_in_lines}
 use Rattle.bz_canonical.proofs.ReadRules.{some_lines}
 use Rattle.bz_token.specs.Common.{is_empty}
 use Rattle.bz_canonical.proofs.ReadArguments.{append_read, none_read, or_true, single_read}
@@ -79,6 +80,7 @@ span_is names depth from start name at comma rest w named before to span read co
       start_is = s.start_is ∙ start_is;
       comma_is = omega (arith, s.comma_is, end_is, long, ap length inner.1, length-append inner.0 (44 ∷ S), ap length comma_is, length-append S rest);
       end_is = s.end_is ∙ end_is ∙ ap (λ n. start + n) long;
+      literals = literal_in_lines depth read.placed read.is;
     }
 
 -- one after another

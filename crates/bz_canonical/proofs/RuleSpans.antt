@@ -2,6 +2,7 @@
 use Rattle.std.proofs.Common.{◌≡◌, ℕ, suc, ◌+◌, ◌-◌, take, length, List, [], ◌∷◌, ◌++◌, Bool, true, false, refl, sym, ap, ◌∙◌, arith, append_assoc, subst, bytes_eq}
 use Rattle.std.specs.Prelude.{codes, flat_map, map, Option}
 use Rattle.std.specs.List.{concat, position}
+use Rattle.std.proofs.lemmas.Bool.{false≢true}
 use Rattle.std.proofs.lemmas.List.{length-append}
 use Rattle.bz_token.specs.Lexical.{is_text}
 use Rattle.bz_token.specs.declared.token.Kind.TheVariants.{String}
@@ -95,6 +96,7 @@ name_span names named text inside next H name span begins line named_is s =
       start_is = omega (arith, s.start_is, s.from_is, whole);
       comma_is = omega (arith, s.comma_is, s.to_is, whole, rest, ap length (name_inner name), length-append (inner_name name) (44 ∷ []));
       end_is = omega (arith, s.end_is, s.to_is, whole, rest, lines);
+      literals = λ text some. absurd (false≢true some);
     }
 
 -- the name, and the arguments after it

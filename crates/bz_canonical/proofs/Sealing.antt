@@ -53,25 +53,29 @@ on_lines (x ∷ run) a = either (nat_le (length ((x ∷ run) ++ a ∷ [])) 1) (i
     either false true beside is = refl
     either false false beside is = absurd (false≢true is)
 
-unnamed : (names : List (List ℕ)) (run : List Segment) (a : Segment) → is_among names (sealed_after run a) ≡ false
+pub unnamed : (names : List (List ℕ)) (run : List Segment) (a : Segment) → is_among names (sealed_after run a) ≡ false
 unnamed [] run a = refl
 unnamed (n ∷ ns) run a = unnamed ns run a
 
-more_unasked : (names : List (List ℕ)) (run : List Segment) (a : Segment) → list_any (is_among names) run ≡ false → is_among names a ≡ false → list_any (is_among names) (run ++ a ∷ []) ≡ false
-more_unasked names run a h is = list_any-append (is_among names) run (a ∷ []) ∙ (λ i. h i || (is i || false))
+more_unasked : (asks : Segment → Bool) (run : List Segment) (a : Segment) → list_any asks run ≡ false → asks a ≡ false → list_any asks (run ++ a ∷ []) ≡ false
+more_unasked asks run a h is = list_any-append asks run (a ∷ []) ∙ (λ i. h i || (is i || false))
 
 abbrev Alike : List Segment → Segment → Type 0
 Alike run t = are_alike run t ≡ true
 
+-- nothing that is sealed is asked for
+abbrev pub NeverAsks : (Segment → Bool) → Type 0
+NeverAsks asks = (run : List Segment) (a : Segment) → asks (sealed_after run a) ≡ false
+
 -- the run and the argument after it are sealed as one
-stands_for : (names : List (List ℕ)) (run : List Segment) (a : Segment) (inner : List ℕ) → AreAbove run → argument_lines (a ∷ []) ≡ 10 ∷ 32 ∷ 32 ∷ 32 ∷ 32 ∷ (inner ++ 44 ∷ bytes_of (suffix_piece a.suffix))
-    → list_any (is_among names) run ≡ false → is_among names a ≡ false → StandsFor Alike names (run ++ a ∷ []) (sealed_after run a)
-stands_for names run a inner above lines unasked is =
+stands_for : (asks : Segment → Bool) → NeverAsks asks → (run : List Segment) (a : Segment) (inner : List ℕ) → AreAbove run → argument_lines (a ∷ []) ≡ 10 ∷ 32 ∷ 32 ∷ 32 ∷ 32 ∷ (inner ++ 44 ∷ bytes_of (suffix_piece a.suffix))
+    → list_any asks run ≡ false → asks a ≡ false → StandsFor Alike asks (run ++ a ∷ []) (sealed_after run a)
+stands_for asks never run a inner above lines unasked is =
     let bytes : bytes_eq (argument_lines (run ++ a ∷ [])) (argument_lines (sealed_after run a ∷ [])) ≡ true = equal_bytes _ _ (lines_after run a inner above lines) in
     let stays : (nat_le (length (run ++ a ∷ [])) 1 || has_comment (sealed_after run a)) ≡ true = on_lines run a in
     record {
-      unasked = more_unasked names run a unasked is;
-      unnamed = unnamed names run a;
+      unasked = more_unasked asks run a unasked is;
+      unnamed = never run a;
       alike = λ i. bytes i && stays i;
     }
 
@@ -83,55 +87,60 @@ some_from p i (x ∷ xs) = by (p x) (some_from p (i + 1) xs)
     by true more = refl
     by false more = more
 
--- an argument is asked for if it has one of the names
-asked_among : (names : List (List ℕ)) (from start : ℕ) (a : Segment) (lines : List ℕ) (span : ArgumentSpan) → IsSpan names from start a lines span → is_asked span ≡ is_among names a
-asked_among names from start a lines span is =
+-- an argument has one of the names
+pub named_among : (names : List (List ℕ)) (from start : ℕ) (a : Segment) (lines : List ℕ) (span : ArgumentSpan) → IsSpan names from start a lines span → is_some span.named ≡ is_among names a
+named_among names from start a lines span is =
     let named : List ℕ → Bool = λ name. is_named name a in
     ap is_some (is.named ∙ position_from-zero named names) ∙ some_from named 0 names
 
-counted : {names : List (List ℕ)} {n m : ℕ} {xs ys : List Segment} → n ≡ m → AreSealed Alike names n xs ys → AreSealed Alike names m xs ys
-counted {names} {xs} {ys} is are = subst (λ (n : ℕ). AreSealed Alike names n xs ys) is are
+counted : (asks : Segment → Bool) {n m : ℕ} {xs ys : List Segment} → n ≡ m → AreSealed Alike asks n xs ys → AreSealed Alike asks m xs ys
+counted asks {xs = xs} {ys = ys} is are = subst (λ (n : ℕ). AreSealed Alike asks n xs ys) is are
 
-one_run : (names : List (List ℕ)) (count : ℕ) (run : List Segment) (a t : Segment) (args others : List Segment) → StandsFor Alike names (run ++ a ∷ []) t → AreSealed Alike names count args others
-    → AreSealed Alike names (length run + suc count) (run ++ a ∷ args) (t ∷ others)
-one_run names count [] a t args others stands rest =
+one_run : (asks : Segment → Bool) (count : ℕ) (run : List Segment) (a t : Segment) (args others : List Segment) → StandsFor Alike asks (run ++ a ∷ []) t → AreSealed Alike asks count args others
+    → AreSealed Alike asks (length run + suc count) (run ++ a ∷ args) (t ∷ others)
+one_run asks count [] a t args others stands rest =
     let many : suc (0 + count) ≡ 0 + suc count = omega arith in
-    counted many (sealed_more stands rest)
-one_run names count (x ∷ run) a t args others stands rest =
+    counted asks many (sealed_more stands rest)
+one_run asks count (x ∷ run) a t args others stands rest =
     let many : suc (length (run ++ a ∷ []) + count) ≡ length (x ∷ run) + suc count = omega (arith, length-append run (a ∷ [])) in
-    counted many
-    (subst (λ (xs : List Segment). AreSealed Alike names (suc (length (run ++ a ∷ []) + count)) (x ∷ xs) (t ∷ others)) (append_assoc run (a ∷ []) args) (sealed_more stands rest))
+    counted asks many
+    (subst (λ (xs : List Segment). AreSealed Alike asks (suc (length (run ++ a ∷ []) + count)) (x ∷ xs) (t ∷ others)) (append_assoc run (a ∷ []) args) (sealed_more stands rest))
 
-pub are_sealed : (names : List (List ℕ)) (from start : ℕ) (run args : List Segment) (stands : List (List ℕ)) (spans : List ArgumentSpan) → list_any (is_among names) run ≡ false → Waits run (are_asked spans) → AreSpans names from start args stands spans
-    → AreSealed Alike names (length run + count_sealed (are_asked spans)) (run ++ args) (sealed_from run (are_asked spans) args)
-are_sealed names from start run [] [] [] unasked waits are = subst (λ (xs : List Segment). AreSealed Alike names (length xs + 0) (xs ++ []) []) (sym (none_waits run [] refl waits)) all_done
-are_sealed names from start run [] [] (s ∷ ss) unasked waits are = absurd are
-are_sealed names from start run [] (l ∷ ls) ss unasked waits are = absurd are
-are_sealed names from start run (a ∷ args) [] ss unasked waits are = absurd are
-are_sealed names from start run (a ∷ args) (l ∷ ls) [] unasked waits are = absurd are
-are_sealed names from start run (a ∷ args) (l ∷ ls) (s ∷ ss) unasked waits are =
-    by (λ others unasked waits. are_sealed names s.to s.end others args ls ss unasked waits are.1) (is_asked s) (sym (asked_among names from start a l s are.0)) waits (ends_run (is_asked s) (are_asked ss)) refl
+-- what is not asked for by its span is none of those that are asked for
+abbrev pub Unasked : (Segment → Bool) → List Segment → List ArgumentSpan → Type 0
+Unasked asks (a ∷ args) (s ∷ spans) = (is_asked s ≡ false → asks a ≡ false) × Unasked asks args spans
+Unasked asks _ _ = Unit {0}
+
+pub are_sealed : (asks : Segment → Bool) → NeverAsks asks → (names : List (List ℕ)) (from start : ℕ) (run args : List Segment) (stands : List (List ℕ)) (spans : List ArgumentSpan) → list_any asks run ≡ false → Waits run (are_asked spans) → AreSpans names from start args stands spans → Unasked asks args spans
+    → AreSealed Alike asks (length run + count_sealed (are_asked spans)) (run ++ args) (sealed_from run (are_asked spans) args)
+are_sealed asks never names from start run [] [] [] unasked waits are free = subst (λ (xs : List Segment). AreSealed Alike asks (length xs + 0) (xs ++ []) []) (sym (none_waits run [] refl waits)) all_done
+are_sealed asks never names from start run [] [] (s ∷ ss) unasked waits are free = absurd are
+are_sealed asks never names from start run [] (l ∷ ls) ss unasked waits are free = absurd are
+are_sealed asks never names from start run (a ∷ args) [] ss unasked waits are free = absurd are
+are_sealed asks never names from start run (a ∷ args) (l ∷ ls) [] unasked waits are free = absurd are
+are_sealed asks never names from start run (a ∷ args) (l ∷ ls) (s ∷ ss) unasked waits are free =
+    by (λ others unasked waits. are_sealed asks never names s.to s.end others args ls ss unasked waits are.1 free.1) (is_asked s) free.0 waits (ends_run (is_asked s) (are_asked ss)) refl
   where
-    by : ((others : List Segment) → list_any (is_among names) others ≡ false → Waits others (are_asked ss) → AreSealed Alike names (length others + count_sealed (are_asked ss)) (others ++ args) (sealed_from others (are_asked ss) args))
-        → (b : Bool) → is_among names a ≡ b → Waits run (b ∷ are_asked ss) → (e : Bool) → ends_run b (are_asked ss) ≡ e
-        → AreSealed Alike names (length run + count_sealed (b ∷ are_asked ss)) (run ++ a ∷ args) (if e then (if b then a else sealed_after run a) ∷ sealed_from [] (are_asked ss) args else sealed_from (run ++ a ∷ []) (are_asked ss) args)
+    by : ((others : List Segment) → list_any asks others ≡ false → Waits others (are_asked ss) → AreSealed Alike asks (length others + count_sealed (are_asked ss)) (others ++ args) (sealed_from others (are_asked ss) args))
+        → (b : Bool) → (b ≡ false → asks a ≡ false) → Waits run (b ∷ are_asked ss) → (e : Bool) → ends_run b (are_asked ss) ≡ e
+        → AreSealed Alike asks (length run + count_sealed (b ∷ are_asked ss)) (run ++ a ∷ args) (if e then (if b then a else sealed_after run a) ∷ sealed_from [] (are_asked ss) args else sealed_from (run ++ a ∷ []) (are_asked ss) args)
     by more true is w true last =
-        let rest : AreSealed Alike names (0 + count_sealed (are_asked ss)) args (sealed_from [] (are_asked ss) args) = more [] refl (nothing_waits (are_asked ss)) in
-        subst (λ (xs : List Segment). AreSealed Alike names (length xs + count_sealed (are_asked ss)) (xs ++ a ∷ args) (a ∷ sealed_from [] (are_asked ss) args)) (sym (none_waits run (true ∷ are_asked ss) refl w)) (same a rest)
+        let rest : AreSealed Alike asks (0 + count_sealed (are_asked ss)) args (sealed_from [] (are_asked ss) args) = more [] refl (nothing_waits (are_asked ss)) in
+        subst (λ (xs : List Segment). AreSealed Alike asks (length xs + count_sealed (are_asked ss)) (xs ++ a ∷ args) (a ∷ sealed_from [] (are_asked ss) args)) (sym (none_waits run (true ∷ are_asked ss) refl w)) (same a rest)
     by more true is w false on = absurd (false≢true (sym (goes_on true (are_asked ss) on).0))
     by more false is w true last =
         let none : 0 + count_sealed (are_asked ss) ≡ count_sealed (are_asked ss) = omega arith in
-        let rest : AreSealed Alike names (count_sealed (are_asked ss)) args (sealed_from [] (are_asked ss) args) = counted none (more [] refl (nothing_waits (are_asked ss))) in
-        one_run names (count_sealed (are_asked ss)) run a (sealed_after run a) args (sealed_from [] (are_asked ss) args) (stands_for names run a are.0.inner w.above are.0.lines unasked is) rest
+        let rest : AreSealed Alike asks (count_sealed (are_asked ss)) args (sealed_from [] (are_asked ss) args) = counted asks none (more [] refl (nothing_waits (are_asked ss))) in
+        one_run asks (count_sealed (are_asked ss)) run a (sealed_after run a) args (sealed_from [] (are_asked ss) args) (stands_for asks never run a are.0.inner w.above are.0.lines unasked (is refl)) rest
     by more false is w false on =
         let many : length (run ++ a ∷ []) + count_sealed (are_asked ss) ≡ length run + suc (count_sealed (are_asked ss)) = omega (arith, length-append run (a ∷ [])) in
-        counted many
-        (subst (λ (xs : List Segment). AreSealed Alike names (length (run ++ a ∷ []) + count_sealed (are_asked ss)) xs (sealed_from (run ++ a ∷ []) (are_asked ss) args)) (append_assoc run (a ∷ []) args)
-        (more (run ++ a ∷ []) (more_unasked names run a unasked is) (more_wait run a are.0.inner (are_asked ss) w.above are.0.lines (goes_on false (are_asked ss) on).1)))
+        counted asks many
+        (subst (λ (xs : List Segment). AreSealed Alike asks (length (run ++ a ∷ []) + count_sealed (are_asked ss)) xs (sealed_from (run ++ a ∷ []) (are_asked ss) args)) (append_assoc run (a ∷ []) args)
+        (more (run ++ a ∷ []) (more_unasked asks run a unasked (is refl)) (more_wait run a are.0.inner (are_asked ss) w.above are.0.lines (goes_on false (are_asked ss) on).1)))
 
-pub rule_sealed : (names : List (List ℕ)) (r : NamedRule) (stands : List (List ℕ)) (written : List ℕ) (spans : List ArgumentSpan) (d : ArgumentSpan) → 0 < length spans → IsSpanned names r stands written spans
-    → IsSealed (λ run t. are_alike run t ≡ true) names (count_sealed (are_asked (drop 1 spans))) (statement_of r) (statement_of (sealed_rule (are_asked (drop 1 spans)) r))
-rule_sealed names r stands written spans d some is = record {
+pub rule_sealed : (asks : Segment → Bool) → NeverAsks asks → (names : List (List ℕ)) (r : NamedRule) (stands : List (List ℕ)) (written : List ℕ) (spans : List ArgumentSpan) (d : ArgumentSpan) → 0 < length spans → IsSpanned names r stands written spans → Unasked asks r.args (drop 1 spans)
+    → IsSealed (λ run t. are_alike run t ≡ true) asks (count_sealed (are_asked (drop 1 spans))) (statement_of r) (statement_of (sealed_rule (are_asked (drop 1 spans)) r))
+rule_sealed asks never names r stands written spans d some is free = record {
   rule = record { kind = leaf Identifier r.kind ∷ []; args = name_argument r.name ∷ r.args; one_comma = false; end = r.end };
   args = name_argument r.name ∷ sealed_args (are_asked (drop 1 spans)) r.args;
   read = ap (λ (all : List Segment). Some (record { kind = leaf Identifier r.kind ∷ []; args = all; one_comma = false; end = r.end })) (segments_of (name_argument r.name ∷ r.args));
@@ -141,11 +150,11 @@ rule_sealed names r stands written spans d some is = record {
 }
   where
     by : (ls : List (List ℕ)) → AreSpans names (length (front_text r.notes r.kind)) (length (front_text r.notes r.kind)) (name_argument r.name ∷ r.args) ls (get_or spans 0 d ∷ drop 1 spans)
-        → AreSealed (λ run t. are_alike run t ≡ true) names (count_sealed (are_asked (drop 1 spans))) (name_argument r.name ∷ r.args) (name_argument r.name ∷ sealed_args (are_asked (drop 1 spans)) r.args)
+        → AreSealed (λ run t. are_alike run t ≡ true) asks (count_sealed (are_asked (drop 1 spans))) (name_argument r.name ∷ r.args) (name_argument r.name ∷ sealed_args (are_asked (drop 1 spans)) r.args)
     by [] are = absurd are
     by (l ∷ ls) are =
         let none : 0 + count_sealed (are_asked (drop 1 spans)) ≡ count_sealed (are_asked (drop 1 spans)) = omega arith in
-        same (name_argument r.name) (counted none (are_sealed names (get_or spans 0 d).to (get_or spans 0 d).end [] r.args ls (drop 1 spans) refl (nothing_waits (are_asked (drop 1 spans))) are.1))
+        same (name_argument r.name) (counted asks none (are_sealed asks never names (get_or spans 0 d).to (get_or spans 0 d).end [] r.args ls (drop 1 spans) refl (nothing_waits (are_asked (drop 1 spans))) are.1 free))
 
 -- all stay, or those that are asked for
 
@@ -161,22 +170,22 @@ never_one spans = by (count_sealed (are_asked spans) == 1) refl
     by true is one = omega (arith, trues_none spans, one)
     by false is one = false≢true (sym is ∙ ap (λ (n : ℕ). n == 1) one)
 
-all_same : (names : List (List ℕ)) (args : List Segment) → AreSealed Alike names 0 args args
-all_same names [] = all_done
-all_same names (a ∷ args) = same a (all_same names args)
+all_same : (asks : Segment → Bool) (args : List Segment) → AreSealed Alike asks 0 args args
+all_same asks [] = all_done
+all_same asks (a ∷ args) = same a (all_same asks args)
 
-pub rule_shown : (names : List (List ℕ)) (r : NamedRule) (stands : List (List ℕ)) (written : List ℕ) (spans : List ArgumentSpan) (d : ArgumentSpan) → 0 < length spans → IsSpanned names r stands written spans
-    → IsSealed (λ run t. are_alike run t ≡ true) names (count_sealed (are_shown (drop 1 spans))) (statement_of r) (statement_of (sealed_rule (are_shown (drop 1 spans)) r))
-rule_shown names r stands written spans d some is = by (count_sealed (are_asked (drop 1 spans)) == 1)
+pub rule_shown : (asks : Segment → Bool) → NeverAsks asks → (names : List (List ℕ)) (r : NamedRule) (stands : List (List ℕ)) (written : List ℕ) (spans : List ArgumentSpan) (d : ArgumentSpan) → 0 < length spans → IsSpanned names r stands written spans → Unasked asks r.args (drop 1 spans)
+    → IsSealed (λ run t. are_alike run t ≡ true) asks (count_sealed (are_shown (drop 1 spans))) (statement_of r) (statement_of (sealed_rule (are_shown (drop 1 spans)) r))
+rule_shown asks never names r stands written spans d some is free = by (count_sealed (are_asked (drop 1 spans)) == 1)
   where
-    by : (all : Bool) → IsSealed (λ run t. are_alike run t ≡ true) names (count_sealed (shown all (drop 1 spans))) (statement_of r) (statement_of (sealed_rule (shown all (drop 1 spans)) r))
-    by false = rule_sealed names r stands written spans d some is
+    by : (all : Bool) → IsSealed (λ run t. are_alike run t ≡ true) asks (count_sealed (shown all (drop 1 spans))) (statement_of r) (statement_of (sealed_rule (shown all (drop 1 spans)) r))
+    by false = rule_sealed asks never names r stands written spans d some is free
     by true = let at = headed names r stands written spans d some is in record {
       rule = record { kind = leaf Identifier r.kind ∷ []; args = name_argument r.name ∷ r.args; one_comma = false; end = r.end };
       args = name_argument r.name ∷ sealed_args (shown true (drop 1 spans)) r.args;
       read = ap (λ (all : List Segment). Some (record { kind = leaf Identifier r.kind ∷ []; args = all; one_comma = false; end = r.end })) (segments_of (name_argument r.name ∷ r.args));
       read_sealed = ap (λ (all : List Segment). Some (record { kind = leaf Identifier r.kind ∷ []; args = all; one_comma = false; end = r.end })) (segments_of (name_argument r.name ∷ sealed_args (shown true (drop 1 spans)) r.args));
-      are_sealed = same (name_argument r.name) (counted (sym (trues_none (drop 1 spans)))
-          (subst (λ (xs : List Segment). AreSealed Alike names 0 r.args xs) (sym (all_stay names _ _ r.args at.stands (drop 1 spans) at.are).1) (all_same names r.args)));
+      are_sealed = same (name_argument r.name) (counted asks (sym (trues_none (drop 1 spans)))
+          (subst (λ (xs : List Segment). AreSealed Alike asks 0 r.args xs) (sym (all_stay names _ _ r.args at.stands (drop 1 spans) at.are).1) (all_same asks r.args)));
       rest = refl;
     }

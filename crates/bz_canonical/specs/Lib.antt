@@ -7,4 +7,5 @@ pub mod SetList
 pub mod SealedArguments
 pub mod Spans
 pub mod SealedRules
+pub mod Sought
 pub mod private

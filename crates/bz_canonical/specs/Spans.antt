@@ -1,8 +1,8 @@
 -- Where the lines of the arguments of a rule stand, as they stand in its chunk and as they are written.
 -- Begin with `HasSpans`.
-use Rattle.std.specs.Prelude.{codes, ◌≡◌, ◌+◌, ℕ, suc, List, [], ◌∷◌, ◌++◌, length, Bool, true, false, if◌then◌else◌, Option, None, is_some}
-use Rattle.std.specs.List.{concat, position}
-use Rattle.bz_token.specs.Common.{is_empty}
+use Rattle.std.specs.Prelude.{codes, ◌≡◌, ◌+◌, ℕ, suc, List, [], ◌∷◌, ◌++◌, length, Bool, true, false, if◌then◌else◌, Option, None, is_some, ◌||◌, bytes_eq}
+use Rattle.std.specs.List.{concat, list_any, position}
+use Rattle.bz_token.specs.Common.{is_empty, map_or}
 use Rattle.bz_token.specs.Lexical.{is_text}
 use Rattle.bz_token.specs.Places.{line_at}
 use Rattle.bz_token.specs.declared.token.Kind.TheVariants.{Identifier, Operator, String}
@@ -13,9 +13,15 @@ use Rattle.bz_tree.specs.Tree.{Segment, Statement, group, leaf, segs_of}
 use Rattle.bz_layout.specs.Pieces.{bytes_of, comment_lines, comments, indent, suffix_piece}
 use Rattle.bz_layout_laws.specs.Legible.{AreComments}
 use Rattle.bz_layout_laws.specs.TextsOfKinds.{SegsHaveTexts}
-use Rattle.bz_attribute.specs.Rules.{is_named}
+use Rattle.bz_label.specs.Endings.{is_in}
+use Rattle.bz_attribute.specs.Lists.{parts}
+use Rattle.bz_attribute.specs.Rules.{is_named, only_text, value}
 use Rattle.bz_canonical.specs.Canonical.{AreReadAlone, argument_lines}
 use Rattle.bz_canonical.specs.declared.spans.ArgumentSpan.{ArgumentSpan}
+
+-- the literal is an element of a list in the value of an argument
+abbrev pub has_literal : List ℕ → Segment → Bool
+has_literal text a = list_any (list_any (λ s. map_or false (bytes_eq text) (only_text s.nodes))) (parts (value a))
 
 -- The lines of an argument, which stand so in the chunk, and are some: so many bytes are before them there, and so many in what is written.
 -- `inner` is written of it on its lines, without the first indent, the comma and the comment beside it.
@@ -29,10 +35,11 @@ pub record IsSpan (names : List (List ℕ)) (from start : ℕ) (a : Segment) (st
   pub start_is : span.start ≡ start
   pub comma_is : span.comma ≡ start + length (10 ∷ (indent 1 ++ inner))
   pub end_is : span.end ≡ start + length (argument_lines (a ∷ []))
+  pub literals : (text : List ℕ) → has_literal text a ≡ true → is_in text stands ≡ true
 
--- It has one of the names that are asked for.
+-- It has one of the names that are asked for, or may have a value that is sought.
 abbrev pub is_asked : ArgumentSpan → Bool
-is_asked span = is_some span.named
+is_asked span = is_some span.named || span.sought
 
 -- one after another
 abbrev pub AreSpans : List (List ℕ) → ℕ → ℕ → List Segment → List (List ℕ) → List ArgumentSpan → Type 0

@@ -6,14 +6,17 @@ ghost use Rattle.bz_tree.specs.Rows.{IsRowOf, part_view};
 ghost use Rattle.bz_tree.specs.Tree.{Segment};
 ghost use Rattle.bz_canonical.specs.Canonical.{AreReadAlone};
 ghost use Rattle.bz_canonical.specs.SealedRules.{are_asked, are_shown, sealed_rule, shown, small_parts};
+ghost use Rattle.bz_canonical.specs.Sought.{marked};
 ghost use Rattle.bz_canonical.specs.Spans.{AreSpans, IsSpannedIn, NamedRule, kept, statement_of};
 
 use crate::asked::{asked_parts, put_asked_rule, read_asked_rule, sealed_count};
 use crate::comments::after_comments_above;
 use crate::listed::put_lists;
 use crate::sealed::{SpannedRule, begins_with, between, sealed_row};
+use crate::sought::mark_sought;
 use crate::spans::ArgumentSpan;
 use bumpalo::Bump;
+use bz_label::Text;
 use bz_memory::{NoMemory, with_capacity};
 use bz_tree::Row;
 use std::alloc::Global;
@@ -85,9 +88,45 @@ fn read_asked<'a>(
     read_asked_rule(room.alloc, room.bump, small.as_str(), room.max_depth)
 }
 
+/// The row of a rule, of which the arguments after the name are sealed that neither have a name that is asked for nor may
+/// have a value with one of these ends, if they are not one alone. None: it is to be read whole.
+pub fn seal<'a>(
+    room: Room<'a>,
+    found: FoundRule<'a>,
+    endings: &[Text],
+    small: &'a mut String,
+) -> Result<Option<Row<'a>>, NoMemory>
+    ensures { IfOk result (λ known. IfSome known (λ row. (names : List (List ℕ)) (r : NamedRule)
+        (stands : List (List ℕ)) → IsSpannedIn room.entry.max_depth names r stands found.entry.chunk.now
+        found.entry.rule.written.now found.entry.rule.spans.now → r.first_line ≡ found.entry.start
+        → r.last_line ≡ found.entry.end → IsRowOf (statement_of (sealed_rule (are_shown (drop 1
+        (marked endings.now found.entry.chunk.now found.entry.rule.spans.now))) r)) row)) }
+{
+    let FoundRule {
+        chunk,
+        rule,
+        start,
+        end,
+    } = found;
+    let Some(spans) = mark_sought(room.bump, endings, chunk, rule.spans)? else {
+        return Ok(None);
+    };
+    let rule = SpannedRule { spans, ..rule };
+    seal_unasked(
+        room,
+        FoundRule {
+            chunk,
+            rule,
+            start,
+            end,
+        },
+        small,
+    )
+}
+
 /// The row of a rule, of which the arguments after the name are sealed that are not asked for, if they are not one alone.
 /// None: it is to be read whole.
-pub fn seal<'a>(
+fn seal_unasked<'a>(
     room: Room<'a>,
     found: FoundRule<'a>,
     small: &'a mut String,

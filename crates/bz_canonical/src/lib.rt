@@ -39,6 +39,7 @@ mod sealed;
 mod segments;
 mod set_list;
 mod simple;
+mod sought;
 mod spans;
 mod statement;
 mod string_list;

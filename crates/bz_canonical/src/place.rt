@@ -100,5 +100,6 @@ fn no_lines(at: usize, start: usize) -> ArgumentSpan
         comma: start,
         end: start,
         named: None,
+        sought: false,
     }
 }

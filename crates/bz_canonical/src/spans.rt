@@ -34,15 +34,17 @@ pub struct ArgumentSpan {
     pub end: usize,
     /// The index of the first of the names that are asked for which it has. None: it has none of them.
     pub named: Option<usize>,
+    /// One of the values that are sought may be in it (`seal` finds out).
+    pub sought: bool,
 }
 
 impl ArgumentSpan {
-    /// Whether it has a name that is asked for.
+    /// Whether it has a name that is asked for, or may have a value that is sought.
     #[inline(always)]
     pub(crate) fn is_asked(&self) -> bool
         ensures { result ≡ is_asked self.now }
     {
-        self.named.is_some()
+        self.named.is_some() || self.sought
     }
 }
 
@@ -151,6 +153,7 @@ fn span_of(
         comma: to.written - (comma - rest),
         end: to.written,
         named,
+        sought: false,
     })
 }
 
@@ -261,5 +264,6 @@ fn name_span(named: Option<usize>, text: &[u8], head: RuleHead<'_>) -> Option<Ar
         comma: to.checked_sub(1)?,
         end: to,
         named,
+        sought: false,
     })
 }

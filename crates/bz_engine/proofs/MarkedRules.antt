@@ -1,5 +1,5 @@
 -- What marks a rule that is not read, by its name, its kind and its lines.
-use Rattle.std.proofs.Common.{◌≡◌, ◌≢◌, ℕ, ◌+◌, ◌<◌, ◌≤◌, ◌&&◌, ◌==◌, Bool, List, ◌++◌, true, false, Bor, length, get_or, refl, sym, ap, subst, ◌∙◌, arith, tests, append-nil, ltb, ltb-true, ltb-false}
+use Rattle.std.proofs.Common.{◌≡◌, ◌≢◌, ℕ, ◌+◌, ◌<◌, ◌≤◌, ◌&&◌, ◌==◌, Bool, List, ◌++◌, true, false, length, get_or, refl, sym, ap, subst, ◌∙◌, arith, tests, append-nil, ltb, ltb-true, ltb-false}
 use Rattle.std.proofs.lemmas.Bool.{false≢true}
 use Rattle.std.proofs.lemmas.List.Sums.{sum_by-append}
 use Rattle.std.specs.List.{concat}
@@ -8,8 +8,8 @@ use Rattle.bz_token.specs.Common.{map_or}
 use Rattle.bz_tree.specs.Tree.{Statement}
 use Rattle.bz_label.specs.Labels.{Package, Target, Name, Pkg, All, Kind, Line}
 use Rattle.bz_attribute.specs.Marks.{marks, marks_rule}
-use Rattle.bz_attribute.specs.Rules.{Rule, is_text, name_in, rule_of}
-use Rattle.bz_canonical.specs.Canonical.{HasName, rule_name}
+use Rattle.bz_attribute.specs.Rules.{is_text}
+use Rattle.bz_canonical.specs.Canonical.{rule_name}
 use Rattle.bz_canonical.specs.Spans.{HasSpans, IsSpannedIn, NamedRule, front_text}
 use Rattle.bz_passes.specs.Asked.{IsFirstFrom, asked_by, may_mark}
 use Rattle.bz_passes.specs.Exchange.{IsPassedBy}

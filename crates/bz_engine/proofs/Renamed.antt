@@ -1,5 +1,5 @@
 -- What `rename` makes of a rule by its text. The name of an argument stands where a comment line that is put above it ends.
-use Rattle.std.proofs.Common.{◌≡◌, ℕ, suc, List, [], ◌∷◌, ◌++◌, true, false, length, map, drop, refl, sym, ap, ◌∙◌, append_assoc, append-nil, subst, arith}
+use Rattle.std.proofs.Common.{◌≡◌, ℕ, suc, List, [], ◌∷◌, ◌++◌, true, false, length, drop, refl, sym, ap, ◌∙◌, append_assoc, append-nil, subst, arith}
 use Rattle.std.proofs.Math.Seq.{drop-append_seam}
 use Rattle.std.proofs.lemmas.Bool.{false≢true}
 use Rattle.std.proofs.lemmas.List.{map-append}
@@ -12,7 +12,7 @@ use Rattle.bz_layout.specs.declared.broken.Style.TheVariants.{Broken}
 use Rattle.bz_layout.specs.declared.spacing.Edge.TheVariants.{Operand, Start}
 use Rattle.bz_layout.specs.declared.spacing.Gap.TheVariants.{Closed, Line}
 use Rattle.bz_layout.specs.Layout.{layout_text}
-use Rattle.bz_layout.specs.Pieces.{Piece, bytes_of, comments, piece, suffix_piece}
+use Rattle.bz_layout.specs.Pieces.{bytes_of, comments, piece, suffix_piece}
 use Rattle.bz_layout.specs.Walked.{items_pieces}
 use Rattle.bz_layout.proofs.Pieces.{bytes_append}
 use Rattle.bz_attribute.specs.Effects.{edit_first, has, with_args, with_comment}

@@ -1,13 +1,20 @@
 -- The names that are gathered of a script cover it.
 use Rattle.std.proofs.Common.{◌≡◌, ℕ, Bool, true, false, ◌&&◌, ◌||◌, if◌then◌else◌, List, [], ◌∷◌, ◌++◌, length, codes, nat_le, refl, ◌∙◌, ap, subst}
 use Rattle.std.specs.Prelude.{Option, Some, None, bytes_eq, is_some, option_and_then, unwrap_or}
-use Rattle.std.specs.List.{list_all}
-use Rattle.std.proofs.lemmas.Bool.{and_parts, false≢true}
+use Rattle.std.specs.List.{flat_map, list_all}
+use Rattle.std.proofs.lemmas.Bool.{and_parts, false≢true, or_parts}
 use Rattle.std.proofs.lemmas.List.Folds.{list_any-append}
 use Rattle.bz_token.specs.Common.{is_filled, map_or, is_one_of}
-use Rattle.bz_rule.specs.Sealed.{attributes_of}
-use Rattle.bz_engine.specs.Outcome.{Script}
-use Rattle.bz_engine.specs.private.Sealed.{asked_names, by_each, covers, is_covered, with_command, with_name, with_pass}
+use Rattle.bz_label.specs.Labels.{Target}
+use Rattle.bz_label.specs.declared.arguments.Chosen.TheVariants.{Values}
+use Rattle.bz_passes.specs.Passes.{Pass}
+use Rattle.bz_attribute.specs.Reports.{chooses}
+use Rattle.bz_rule.specs.Commands.{Command}
+use Rattle.bz_rule.specs.Sealed.{attributes_of, is_among, values_sought}
+use Rattle.bz_rule.proofs.NotSeen.{asks_cover, name_covered}
+use Rattle.bz_engine.specs.Outcome.{Run, Script}
+use Rattle.bz_engine.specs.private.Sealed.{asked_names, asked_values, by_each, covers, is_asked_in, is_covered, with_command, with_name, with_pass}
+use Rattle.bz_engine.proofs.SealedScript.{AsksFor}
 use Rattle.bz_engine.proofs.CanonicalChunks.{bytes_same}
 
 abbrev Names : Type 0
@@ -109,11 +116,87 @@ adds_pass = record {
   stays = λ names more within p h. all_stay (is_covered names) (is_covered more) (adds_command.stays names more within) p.commands h;
 }
 
-pub asked_cover : (passes : Script) → is_filled (asked_names passes) ≡ true → covers (asked_names passes) passes ≡ true
-asked_cover passes some = by (by_each with_pass (codes "name" ∷ []) passes) refl some
+names_cover : (passes : Script) → is_filled (asked_names passes) ≡ true → covers (asked_names passes) passes ≡ true
+names_cover passes some = few (nat_le (length (asked_values passes)) 8) (by (by_each with_pass (codes "name" ∷ []) passes) refl) some
   where
     by : (o : Option Names) → by_each with_pass (codes "name" ∷ []) passes ≡ o → is_filled (unwrap_or o []) ≡ true → covers (unwrap_or o []) passes ≡ true
     by None is some = absurd (false≢true some)
     by (Some names) is some =
         let name : is_one_of names (codes "name") ≡ true = each_within adds_pass (codes "name" ∷ []) passes names is (codes "name") refl in
         λ i. name i && each_there adds_pass (codes "name" ∷ []) passes names is i
+
+    few : (b : Bool) → (is_filled (unwrap_or (by_each with_pass (codes "name" ∷ []) passes) []) ≡ true → covers (unwrap_or (by_each with_pass (codes "name" ∷ []) passes) []) passes ≡ true)
+        → is_filled (if b then unwrap_or (by_each with_pass (codes "name" ∷ []) passes) [] else []) ≡ true → covers (if b then unwrap_or (by_each with_pass (codes "name" ∷ []) passes) [] else []) passes ≡ true
+    few true more some = more some
+    few false more some = absurd (false≢true some)
+
+-- the values that are gathered are all that are sought
+
+all_members : (xs all : Names) → AreWithin xs all → list_all (is_one_of all) xs ≡ true
+all_members [] all within = refl
+all_members (x ∷ xs) all within =
+    let here : is_one_of (x ∷ xs) x ≡ true = or_left (bytes_eq x x) (is_one_of xs x) (bytes_same x) in
+    λ i. within x here i && all_members xs all (λ a h. within a (either_or (bytes_eq a x) (is_one_of xs a) h)) i
+  where
+    either_or : (a b : Bool) → b ≡ true → (a || b) ≡ true
+    either_or true b is = refl
+    either_or false b is = is
+
+within_front : (xs ys all : Names) → AreWithin (xs ++ ys) all → AreWithin xs all
+within_front xs ys all within a h = within a (list_any-append (bytes_eq a) xs ys ∙ or_left (is_one_of xs a) (is_one_of ys a) h)
+
+within_back : (xs ys all : Names) → AreWithin (xs ++ ys) all → AreWithin ys all
+within_back xs ys all within a h = within a (list_any-append (bytes_eq a) xs ys ∙ or_right (is_one_of xs a) (is_one_of ys a) h)
+  where
+    or_right : (a b : Bool) → b ≡ true → (a || b) ≡ true
+    or_right true b is = refl
+    or_right false b is = is
+
+abbrev seeks_some : Names → Command → Bool
+seeks_some values c = list_all (is_one_of values) (values_sought c)
+
+commands_within : (cs : List Command) (all : Names) → AreWithin (flat_map values_sought cs) all → list_all (seeks_some all) cs ≡ true
+commands_within [] all within = refl
+commands_within (c ∷ cs) all within =
+    let here = all_members (values_sought c) all (within_front (values_sought c) (flat_map values_sought cs) all within) in
+    let more = commands_within cs all (within_back (values_sought c) (flat_map values_sought cs) all within) in
+    λ i. here i && more i
+
+passes_within : (passes : Script) (all : Names) → AreWithin (asked_values passes) all → list_all (λ (p : Pass Target Command). list_all (seeks_some all) p.commands) passes ≡ true
+passes_within [] all within = refl
+passes_within (p ∷ passes) all within =
+    let here = commands_within p.commands all (within_front (flat_map values_sought p.commands) (asked_values passes) all within) in
+    let more = passes_within passes all (within_back (flat_map values_sought p.commands) (asked_values passes) all within) in
+    λ i. here i && more i
+
+all_both : {A : Type 0} (q r : A → Bool) (xs : List A) → list_all q xs ≡ true → list_all r xs ≡ true → list_all (λ x. q x && r x) xs ≡ true
+all_both q r [] h k = refl
+all_both q r (x ∷ xs) h k =
+    let a = and_parts (q x) (list_all q xs) h in
+    let b = and_parts (r x) (list_all r xs) k in
+    let here : (q x && r x) ≡ true = λ i. a.0 i && b.0 i in
+    let more = all_both q r xs a.1 b.1 in
+    λ i. here i && more i
+
+both_hold : (q r : Command → Bool) (passes : Script) → list_all (λ (p : Pass Target Command). list_all q p.commands) passes ≡ true → list_all (λ (p : Pass Target Command). list_all r p.commands) passes ≡ true
+    → list_all (λ (p : Pass Target Command). list_all (λ c. q c && r c) p.commands) passes ≡ true
+both_hold q r [] h k = refl
+both_hold q r (p ∷ passes) h k =
+    let a = and_parts (list_all q p.commands) (list_all (λ (p : Pass Target Command). list_all q p.commands) passes) h in
+    let b = and_parts (list_all r p.commands) (list_all (λ (p : Pass Target Command). list_all r p.commands) passes) k in
+    let here = all_both q r p.commands a.0 b.0 in
+    let more = both_hold q r passes a.1 b.1 in
+    λ i. here i && more i
+
+-- the script asks for no other argument
+pub asked_for : (run : Run) → is_filled (asked_names run.passes) ≡ true → AsksFor (is_asked_in run) run.home run.passes
+asked_for run some =
+    let names : Names = asked_names run.passes in
+    let values : Names = asked_values run.passes in
+    let cover = and_parts (is_one_of names (codes "name")) (list_all (λ (p : Pass Target Command). list_all (is_covered names) p.commands) run.passes) (names_cover run.passes some) in
+    record {
+      name = λ a free. name_covered names (codes "name") cover.0 a (or_parts (is_among names a) (chooses run.home (Values values) a) free).0;
+      looks = λ c. is_covered names c && seeks_some values c;
+      covers = λ c is. let both = and_parts (is_covered names c) (seeks_some values c) is in asks_cover names values c run.home both.0 both.1;
+      each = both_hold (is_covered names) (seeks_some values) run.passes cover.1 (passes_within run.passes values (λ a h. h));
+    }

@@ -1,37 +1,36 @@
 -- The row that is made of a found rule, and its head, are those of the rule with sealed arguments.
-use Rattle.std.proofs.Common.{◌≡◌, ◌≢◌, ◌<◌, ℕ, suc, zero, List, [], ◌∷◌, Bool, length, take, drop, get_or, refl, sym, ap, subst, ◌∙◌, arith, append-nil, inl, inr}
+use Rattle.std.proofs.Common.{◌≡◌, ◌≢◌, ◌<◌, ℕ, suc, zero, List, [], ◌∷◌, Bool, length, map, take, drop, get_or, refl, sym, ap, subst, ◌∙◌, arith, append-nil, inl, inr}
 use Rattle.std.specs.Prelude.{None, Some, IsTrue, false, option_map}
 use Rattle.bz_token.specs.declared.token.Kind.TheVariants.{Identifier}
 use Rattle.bz_token.specs.Places.{line_at}
 use Rattle.bz_tree.specs.declared.row.Row.{Row}
 use Rattle.bz_tree.specs.Rows.{IsRowOf}
 use Rattle.bz_tree.specs.Tree.{Segment, Statement, leaf}
+use Rattle.bz_label.specs.Endings.{ending}
+use Rattle.bz_label.specs.Labels.{Package}
 use Rattle.bz_attribute.specs.Heads.{IsHeadOf}
 use Rattle.bz_attribute.specs.Rules.{Rule, name_in, rule_of}
 use Rattle.bz_attribute.specs.declared.head.Head.{Head}
 use Rattle.bz_attribute.proofs.Views.{segments_of}
 use Rattle.bz_canonical.specs.Canonical.{rule_name}
 use Rattle.bz_canonical.specs.SealedRules.{are_shown, count_sealed, sealed_rule}
-use Rattle.bz_canonical.specs.Spans.{AreSpans, HasSpans, IsSpannedIn, NamedRule, front_text, name_argument, statement_of}
+use Rattle.bz_canonical.specs.Sought.{marked}
+use Rattle.bz_canonical.specs.Spans.{HasSpans, IsSpannedIn, NamedRule, front_text, name_argument, statement_of}
 use Rattle.bz_canonical.specs.declared.spans.ArgumentSpan.{ArgumentSpan}
 use Rattle.bz_canonical.proofs.RuleKinds.{front_cut}
-use Rattle.bz_canonical.proofs.Sealing.{never_one, rule_shown}
-use Rattle.bz_rule.specs.Sealed.{IsSealed}
-use Rattle.bz_engine.specs.Outcome.{Script}
+use Rattle.bz_canonical.proofs.Sealing.{never_one}
+use Rattle.bz_canonical.proofs.SoughtRules.{rule_sought, some_spans}
+use Rattle.bz_rule.specs.Sealed.{IsSealed, is_asked_for}
+use Rattle.bz_engine.specs.Outcome.{Run}
 use Rattle.bz_engine.specs.declared.canonical.Found.{Found}
 use Rattle.bz_engine.specs.declared.sealed.HeadedRule.{HeadedRule}
 use Rattle.bz_engine.specs.private.Found.{HasItsSpans, IsFoundOn, IsRuleFound}
-use Rattle.bz_engine.specs.private.Sealed.{HasLinesOf, IsNoneOrMore, IsSealedRule, asked_names}
+use Rattle.bz_engine.specs.private.Sealed.{HasLinesOf, IsNoneOrMore, IsSealedRule, asked_names, asked_values, is_asked_in}
 
 none_or_more : (n : ℕ) → n ≢ 1 → IsNoneOrMore n
 none_or_more zero other = inl refl
 none_or_more (suc zero) other = absurd (other refl)
 none_or_more (suc (suc n)) other = inr (omega arith)
-
-some_spans : (names : List (List ℕ)) (n m : ℕ) (a : Segment) (args : List Segment) (stands : List (List ℕ)) (spans : List ArgumentSpan) → AreSpans names n m (a ∷ args) stands spans → 0 < length spans
-some_spans names n m a args [] spans are = absurd are
-some_spans names n m a args (l ∷ ls) [] are = absurd are
-some_spans names n m a args (l ∷ ls) (span ∷ spans) are = omega arith
 
 -- the rule that its statement is
 abbrev pub the_rule : NamedRule → Rule
@@ -52,29 +51,29 @@ rule_head r head kind name start end = record {
 }
 
 -- what `seal` ensures of a row
-abbrev pub IsMade : ℕ → HeadedRule → Row → Type 0
-IsMade depth noted row = (names : List (List ℕ)) (r : NamedRule) (stands : List (List ℕ)) → IsSpannedIn depth names r stands noted.rule.chunk.now noted.rule.rule.written.now noted.rule.rule.spans.now
-    → r.first_line ≡ noted.rule.start → r.last_line ≡ noted.rule.end → IsRowOf (statement_of (sealed_rule (are_shown (drop 1 noted.rule.rule.spans.now)) r)) row
+abbrev pub IsMade : List (List ℕ) → ℕ → HeadedRule → Row → Type 0
+IsMade endings depth noted row = (names : List (List ℕ)) (r : NamedRule) (stands : List (List ℕ)) → IsSpannedIn depth names r stands noted.rule.chunk.now noted.rule.rule.written.now noted.rule.rule.spans.now
+    → r.first_line ≡ noted.rule.start → r.last_line ≡ noted.rule.end → IsRowOf (statement_of (sealed_rule (are_shown (drop 1 (marked endings noted.rule.chunk.now noted.rule.rule.spans.now))) r)) row
 
 -- What is known of the statement of a found rule: its head, and the same rule with sealed arguments, which has this head.
-pub record HasSealed (depth : ℕ) (names : List (List ℕ)) (s : Statement) (noted : HeadedRule) : Type 0 where
+pub record HasSealed (depth : ℕ) (endings : List (List ℕ)) (asks : Segment → Bool) (s : Statement) (noted : HeadedRule) : Type 0 where
   pub head : IsHeadOf noted.head s
   pub sealed : Statement
   pub sealed_head : IsHeadOf noted.head sealed
-  pub row_is : (row : Row) → IsMade depth noted row → IsRowOf sealed row
-  pub is : IsSealedRule names s sealed
+  pub row_is : (row : Row) → IsMade endings depth noted row → IsRowOf sealed row
+  pub is : IsSealedRule asks s sealed
 
 no_span : ArgumentSpan
-no_span = record { from = 0; to = 0; start = 0; comma = 0; end = 0; named = None }
+no_span = record { from = 0; to = 0; start = 0; comma = 0; end = 0; named = None; sought = false }
 
-has_sealed : (line depth : ℕ) (names : List (List ℕ)) (s : Statement) (found : Found) (noted : HeadedRule) → HasSpans line depth names s found.chunk.chunk.now found.chunk.written.now found.spans.now → IsFoundOn depth line found s → IsRuleFound line found noted
-    → HasSealed depth names s noted
-has_sealed line depth names s found noted has at is =
+has_sealed : (line depth : ℕ) (names values : List (List ℕ)) (home : Package) (s : Statement) (found : Found) (noted : HeadedRule) → HasSpans line depth names s found.chunk.chunk.now found.chunk.written.now found.spans.now → IsFoundOn depth line found s → IsRuleFound line found noted
+    → HasSealed depth (map ending values) (is_asked_for names values home) s noted
+has_sealed line depth names values home s found noted has at is =
     let r : NamedRule = has.rule in
     let chunk : List ℕ = noted.rule.chunk.now in
     let written : List ℕ = noted.rule.rule.written.now in
     let spans : List ArgumentSpan = noted.rule.rule.spans.now in
-    let shown : List Bool = are_shown (drop 1 spans) in
+    let shown : List Bool = are_shown (drop 1 (marked (map ending values) chunk spans)) in
     let F : List ℕ = front_text r.notes r.kind in
     let spanned : IsSpannedIn depth names r has.stands chunk written spans =
     subst (λ (t : List ArgumentSpan). IsSpannedIn depth names r has.stands chunk written t) (sym is.spans_are)
@@ -96,11 +95,11 @@ has_sealed line depth names s found noted has at is =
       row_is = λ row made. made names r has.stands spanned first last;
       is = record {
         count = count_sealed shown;
-        enough = none_or_more (count_sealed shown) (never_one (drop 1 spans));
-        sealed = subst (λ (z : Statement). IsSealed HasLinesOf names (count_sealed shown) z (statement_of (sealed_rule shown r))) (sym has.statement_is) (rule_shown names r has.stands written spans no_span some spanned.spanned);
+        enough = none_or_more (count_sealed shown) (never_one (drop 1 (marked (map ending values) chunk spans)));
+        sealed = subst (λ (z : Statement). IsSealed HasLinesOf (is_asked_for names values home) (count_sealed shown) z (statement_of (sealed_rule shown r))) (sym has.statement_is) (rule_sought names values home depth r has.stands chunk written spans spanned);
       };
     }
 
-pub sealed_of : (line depth : ℕ) (passes : Script) (found : Found) (noted : HeadedRule) → HasItsSpans depth passes found → IsTrue found.chunk.noted → IsRuleFound line found noted → (s : Statement) → IsFoundOn depth line found s
-    → HasSealed depth (asked_names passes) s noted
-sealed_of line depth passes found noted spans known is s at = has_sealed line depth (asked_names passes) s found noted (spans.spans known line s at.read) at is
+pub sealed_of : (line : ℕ) (run : Run) (found : Found) (noted : HeadedRule) → HasItsSpans run.max_depth run.passes found → IsTrue found.chunk.noted → IsRuleFound line found noted → (s : Statement) → IsFoundOn run.max_depth line found s
+    → HasSealed run.max_depth (map ending (asked_values run.passes)) (is_asked_in run) s noted
+sealed_of line run found noted spans known is s at = has_sealed line run.max_depth (asked_names run.passes) (asked_values run.passes) run.home s found noted (spans.spans known line s at.read) at is

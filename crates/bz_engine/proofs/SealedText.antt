@@ -16,18 +16,18 @@ use Rattle.bz_canonical.proofs.SealedLines.{StayOnLines, comments_stay, rules_sa
 use Rattle.bz_engine.specs.private.Sealed.{HasLinesOf}
 use Rattle.bz_engine.proofs.CanonicalChunks.{same_bytes}
 
-same_lines : (names : List (List ℕ)) (count : ℕ) (args others : List Segment) → AreSealed HasLinesOf names count args others → argument_lines args ≡ argument_lines others
-same_lines names _ _ _ all_done = refl
-same_lines names _ _ _ (same {args} {others} a rest) = lines_append (a ∷ []) args ∙ ap (λ (t : List ℕ). argument_lines (a ∷ []) ++ t) (same_lines names _ _ _ rest) ∙ sym (lines_append (a ∷ []) others)
-same_lines names _ _ _ (sealed {args} {others} {run} {a} {t} stands rest) =
+same_lines : (asks : Segment → Bool) (count : ℕ) (args others : List Segment) → AreSealed HasLinesOf asks count args others → argument_lines args ≡ argument_lines others
+same_lines asks _ _ _ all_done = refl
+same_lines asks _ _ _ (same {args} {others} a rest) = lines_append (a ∷ []) args ∙ ap (λ (t : List ℕ). argument_lines (a ∷ []) ++ t) (same_lines asks _ _ _ rest) ∙ sym (lines_append (a ∷ []) others)
+same_lines asks _ _ _ (sealed {args} {others} {run} {a} {t} stands rest) =
     let both = and_parts (bytes_eq (argument_lines (a ∷ run)) (argument_lines (t ∷ []))) (nat_le (length (a ∷ run)) 1 || has_comment t) stands.alike in
     let lines : argument_lines (a ∷ run) ≡ argument_lines (t ∷ []) = same_bytes _ _ both.0 in
-    lines_append (a ∷ run) args ∙ ap (λ (t : List ℕ). t ++ argument_lines args) lines ∙ ap (λ (more : List ℕ). argument_lines (t ∷ []) ++ more) (same_lines names _ _ _ rest) ∙ sym (lines_append (t ∷ []) others)
+    lines_append (a ∷ run) args ∙ ap (λ (t : List ℕ). t ++ argument_lines args) lines ∙ ap (λ (more : List ℕ). argument_lines (t ∷ []) ++ more) (same_lines asks _ _ _ rest) ∙ sym (lines_append (t ∷ []) others)
 
-so_many : (names : List (List ℕ)) (count : ℕ) (args others : List Segment) → AreSealed HasLinesOf names count args others → count ≤ length args
-so_many names _ _ _ all_done = omega arith
-so_many names _ _ _ (same a rest) = let k = so_many names _ _ _ rest in omega (arith, k)
-so_many names _ _ _ (sealed {args} {run} stands rest) = let k = so_many names _ _ _ rest in omega (arith, k, length-append run args)
+so_many : (asks : Segment → Bool) (count : ℕ) (args others : List Segment) → AreSealed HasLinesOf asks count args others → count ≤ length args
+so_many asks _ _ _ all_done = omega arith
+so_many asks _ _ _ (same a rest) = let k = so_many asks _ _ _ rest in omega (arith, k)
+so_many asks _ _ _ (sealed {args} {run} stands rest) = let k = so_many asks _ _ _ rest in omega (arith, k, length-append run args)
 
 -- a comment of the first, or of those after it
 here : (above beside more : Bool) → (above || beside) ≡ true → (above || beside || more) ≡ true
@@ -41,15 +41,15 @@ later false true more is = refl
 later false false more is = is
 
 -- what is sealed has a comment, or stands alone for each of so many
-kept_on_lines : (names : List (List ℕ)) (count : ℕ) (args others : List Segment) → AreSealed HasLinesOf names count args others → (have_comments (segs_of others) ≡ true) ⊎ (count ≤ length others)
-kept_on_lines names _ _ _ all_done = inr (omega arith)
-kept_on_lines names _ _ _ (same {others} a rest) =
-    elim (kept_on_lines names _ _ _ rest) [
+kept_on_lines : (asks : Segment → Bool) (count : ℕ) (args others : List Segment) → AreSealed HasLinesOf asks count args others → (have_comments (segs_of others) ≡ true) ⊎ (count ≤ length others)
+kept_on_lines asks _ _ _ all_done = inr (omega arith)
+kept_on_lines asks _ _ _ (same {others} a rest) =
+    elim (kept_on_lines asks _ _ _ rest) [
       | inl are ↦ inl (later (is_filled a.before) (is_some a.suffix) (have_comments (segs_of others)) are)
       | inr many ↦ inr (omega (arith, many))
     ]
-kept_on_lines names _ _ _ (sealed {count} {args} {others} {run} {a} {t} stands rest) =
-    by (kept_on_lines names _ _ _ rest) (nat_le (length (a ∷ run)) 1) refl (and_parts (bytes_eq (argument_lines (a ∷ run)) (argument_lines (t ∷ []))) (nat_le (length (a ∷ run)) 1 || has_comment t) stands.alike).1
+kept_on_lines asks _ _ _ (sealed {count} {args} {others} {run} {a} {t} stands rest) =
+    by (kept_on_lines asks _ _ _ rest) (nat_le (length (a ∷ run)) 1) refl (and_parts (bytes_eq (argument_lines (a ∷ run)) (argument_lines (t ∷ []))) (nat_le (length (a ∷ run)) 1 || has_comment t) stands.alike).1
   where
     by : (have_comments (segs_of others) ≡ true) ⊎ (count ≤ length others) → (few : Bool) → nat_le (length (a ∷ run)) 1 ≡ few → (few || has_comment t) ≡ true → (have_comments (segs_of (t ∷ others)) ≡ true) ⊎ (suc (length run + count) ≤ length (t ∷ others))
     by after true few is =
@@ -60,17 +60,17 @@ kept_on_lines names _ _ _ (sealed {count} {args} {others} {run} {a} {t} stands r
         ]
     by after false few is = inl (here (is_filled t.before) (is_some t.suffix) (have_comments (segs_of others)) is)
 
-none_sealed : (names : List (List ℕ)) (count : ℕ) (args others : List Segment) → count ≡ 0 → AreSealed HasLinesOf names count args others → args ≡ others
-none_sealed names _ _ _ none all_done = refl
-none_sealed names _ _ _ none (same a rest) = ap (λ (xs : List Segment). a ∷ xs) (none_sealed names _ _ _ none rest)
-none_sealed names _ _ _ none (sealed stands rest) = absurd (omega (arith, none))
+none_sealed : (asks : Segment → Bool) (count : ℕ) (args others : List Segment) → count ≡ 0 → AreSealed HasLinesOf asks count args others → args ≡ others
+none_sealed asks _ _ _ none all_done = refl
+none_sealed asks _ _ _ none (same a rest) = ap (λ (xs : List Segment). a ∷ xs) (none_sealed asks _ _ _ none rest)
+none_sealed asks _ _ _ none (sealed stands rest) = absurd (omega (arith, none))
 
-pub sealed_written : (names : List (List ℕ)) (count : ℕ) (s t : Statement) → IsSealed HasLinesOf names count s t → 2 ≤ count → layout_text s ≡ layout_text t
-sealed_written names count s t is two =
-    let many : count ≤ length is.rule.args = so_many names count is.rule.args is.args is.are_sealed in
+pub sealed_written : (asks : Segment → Bool) (count : ℕ) (s t : Statement) → IsSealed HasLinesOf asks count s t → 2 ≤ count → layout_text s ≡ layout_text t
+sealed_written asks count s t is two =
+    let many : count ≤ length is.rule.args = so_many asks count is.rule.args is.args is.are_sealed in
     let stay : StayOnLines is.args =
-    elim (kept_on_lines names count is.rule.args is.args is.are_sealed) [ inl are ↦ comments_stay is.args are | inr enough ↦ two_stay is.args (omega (arith, enough, two)) ] in
-    rules_written_same s t is.rule is.args is.read is.read_sealed is.rest (same_lines names count is.rule.args is.args is.are_sealed) (two_stay is.rule.args (omega (arith, many, two))) stay
+    elim (kept_on_lines asks count is.rule.args is.args is.are_sealed) [ inl are ↦ comments_stay is.args are | inr enough ↦ two_stay is.args (omega (arith, enough, two)) ] in
+    rules_written_same s t is.rule is.args is.read is.read_sealed is.rest (same_lines asks count is.rule.args is.args is.are_sealed) (two_stay is.rule.args (omega (arith, many, two))) stay
 
-pub unsealed_same : (names : List (List ℕ)) (s t : Statement) → IsSealed HasLinesOf names 0 s t → s ≡ t
-unsealed_same names s t is = rules_same s t is.rule is.args is.read is.read_sealed is.rest (none_sealed names 0 is.rule.args is.args refl is.are_sealed)
+pub unsealed_same : (asks : Segment → Bool) (s t : Statement) → IsSealed HasLinesOf asks 0 s t → s ≡ t
+unsealed_same asks s t is = rules_same s t is.rule is.args is.read is.read_sealed is.rest (none_sealed asks 0 is.rule.args is.args refl is.are_sealed)

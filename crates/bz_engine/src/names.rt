@@ -1,27 +1,40 @@
-//! The attributes that a script mentions. Of a rule the script sees no argument of another name.
+//! The attributes that a script mentions, and the values that it seeks in all. Of a rule the script sees no other argument.
 
-ghost use Rattle.std.specs.Prelude.{◌≡◌, IfOk, None, Some, bytes_eq, if◌then◌else◌, map};
+ghost use Rattle.std.specs.Prelude.{◌≡◌, ◌++◌, ◌∷◌, [], IfOk, None, OnOk, Some, bytes_eq, flat_map, if◌then◌else◌, length, map};
 ghost use Rattle.std.specs.List.{position};
 ghost use Rattle.bz_token.specs.Common.{is_one_of};
+ghost use Rattle.bz_label.specs.Endings as endings;
+ghost use Rattle.bz_rule.specs.Forms.{listed};
+ghost use Rattle.bz_rule.specs.Sealed as sealed;
 ghost use Rattle.bz_engine.specs.private.Sealed as spec;
 
-use bz_label::Text;
+use bz_label::{Text, ending};
 use bz_memory::{NoMemory, push};
 use bz_passes::pass::Pass;
-use bz_rule::{Command, Target, attributes_of};
+use bz_rule::forms::Values;
+use bz_rule::{Command, Target, attributes_of, values_sought};
 use std::alloc::Global;
 
 /// So many names at most are worth looking for in a rule.
 const MOST: usize = 64;
 
-/// The attributes that the commands mention, and `name`, each once. None: they may look at others too.
+/// So many values at most.
+const MOST_VALUES: usize = 8;
+
+/// The attributes that the commands mention, and `name`, each once, where they seek so many values. None: they may look at
+/// others too.
 pub(crate) fn asked_names(
     alloc: Global,
     passes: &[Pass<Target, Command>],
+    values: usize,
 ) -> Result<Vec<Text>, NoMemory>
+    requires { values ≡ length (spec.asked_values passes.now) }
     ensures { IfOk result (λ names. names.items ≡ spec.asked_names passes.now) }
 {
     let mut names = Vec::new(alloc);
+    if values > MOST_VALUES {
+        return Ok(names);
+    }
     push(&mut names, Text::from_str(alloc, "name")?)?;
     if !add_passes(alloc, &mut names, passes)? {
         names.clear();
@@ -101,6 +114,56 @@ fn add_name(alloc: Global, names: &mut Vec<Text>, name: &str) -> Result<bool, No
     }
     push(names, Text::from_str(alloc, name)?)?;
     Ok(true)
+}
+
+/// The ends of the values that the commands seek in all attributes.
+pub(crate) fn sought_endings(
+    alloc: Global,
+    passes: &[Pass<Target, Command>],
+) -> Result<Vec<Text>, NoMemory>
+    ensures { IfOk result (λ ends. ends.items ≡ map endings.ending (spec.asked_values passes.now)) }
+{
+    let mut ends = Vec::new(alloc);
+    for pass in passes {
+        add_endings(alloc, &mut ends, pass.commands.as_slice())?;
+    }
+    Ok(ends)
+}
+
+/// Adds the ends of the values that the commands seek in all attributes.
+fn add_endings(alloc: Global, ends: &mut Vec<Text>, commands: &[Command]) -> Result<(), NoMemory>
+    ensures { OnOk result (ends.new.items ≡ ends.old.items
+        ++ map endings.ending (flat_map sealed.values_sought commands.now)) }
+{
+    for command in commands {
+        match values_sought(command) {
+            Values::Listed(values) => add_listed(alloc, ends, values)?,
+            Values::One(value) => add_ending(alloc, ends, value)?,
+            Values::Replaced(old, new) => {
+                add_ending(alloc, ends, old)?;
+                add_ending(alloc, ends, new)?;
+            }
+            Values::None => {}
+        }
+    }
+    Ok(())
+}
+
+/// Adds the ends of these values.
+fn add_listed(alloc: Global, ends: &mut Vec<Text>, values: &[Text]) -> Result<(), NoMemory>
+    ensures { OnOk result (ends.new.items ≡ ends.old.items ++ map endings.ending values.now) }
+{
+    for value in values {
+        add_ending(alloc, ends, value.as_str())?;
+    }
+    Ok(())
+}
+
+/// Adds the end of a value.
+fn add_ending(alloc: Global, ends: &mut Vec<Text>, value: &str) -> Result<(), NoMemory>
+    ensures { OnOk result (ends.new.items ≡ ends.old.items ++ (endings.ending value.now ∷ [])) }
+{
+    push(ends, Text::from_str(alloc, ending(value))?)
 }
 
 fn is_one_of(names: &[Text], asked: &str) -> bool

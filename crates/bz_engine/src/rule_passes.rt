@@ -1,16 +1,17 @@
 //! The passes of a script over rules, with what is asked of them at each statement.
 
-ghost use Rattle.std.specs.Prelude.{◌≡◌, ◌+◌, ◌<◌, false, true, get_or, length, IfOk, IfSome};
+ghost use Rattle.std.specs.Prelude.{◌≡◌, ◌+◌, ◌<◌, false, true, get_or, length, map, IfOk, IfSome};
 ghost use Rattle.std.specs.List.{list_all};
 ghost use Rattle.bz_rule.specs.Commands.{is_command, is_print};
 ghost use Rattle.bz_engine.specs.Outcome as spec;
 ghost use Rattle.bz_engine.specs.Scripts.{AreCommands};
 ghost use Rattle.bz_engine.specs.private.Found.{one_pass};
 ghost use Rattle.bz_engine.specs.private.Named.{all_named};
-ghost use Rattle.bz_engine.specs.private.Sealed.{asked_names};
+ghost use Rattle.bz_engine.specs.private.Sealed.{asked_names, asked_values};
+ghost use Rattle.bz_label.specs.Endings.{ending};
 
 use crate::answer::is_answerable;
-use crate::names::asked_names;
+use crate::names::{asked_names, sought_endings};
 use bz_label::{Marked, Text};
 use bz_memory::NoMemory;
 use bz_passes::pass::Pass;
@@ -31,6 +32,8 @@ pub(crate) struct RulePasses {
     finding: Finding,
     /// The attributes that the commands mention, and `name`. None: they may look at others too.
     names: Vec<Text>,
+    /// The ends of the values that the commands seek in all attributes.
+    endings: Vec<Text>,
 }
 
 /// By what the one pass is found that marks a rule, where its one command may be answered from a text (`is_answerable` of
@@ -60,17 +63,19 @@ pub(crate) struct OnePass<'p> {
 }
 
 impl Model for RulePasses {
-    ghost use Rattle.std.specs.Prelude.{◌≡◌};
+    ghost use Rattle.std.specs.Prelude.{◌≡◌, map};
+    ghost use Rattle.bz_label.specs.Endings.{ending};
     ghost use Rattle.bz_engine.specs.Outcome as spec;
     ghost use Rattle.bz_engine.specs.private.Named.{all_named};
-    ghost use Rattle.bz_engine.specs.private.Sealed.{asked_names};
+    ghost use Rattle.bz_engine.specs.private.Sealed.{asked_names, asked_values};
 
     ghost Value = { spec.Script };
 
     ghost view = { λ s. s.passes };
 
     ghost invariant = { λ s. (s.query ≡ spec.is_query s.passes) × (s.named ≡ all_named s.passes)
-        × (s.names.items ≡ asked_names s.passes) };
+        × (s.names.items ≡ asked_names s.passes)
+        × (s.endings.items ≡ map ending (asked_values s.passes)) };
 }
 
 impl RulePasses {
@@ -85,7 +90,8 @@ impl RulePasses {
         are_read(passes.as_slice());
         let query = is_query(passes.as_slice());
         let named = all_named(passes.as_slice());
-        let names = asked_names(alloc, passes.as_slice())?;
+        let endings = sought_endings(alloc, passes.as_slice())?;
+        let names = asked_names(alloc, passes.as_slice(), endings.len())?;
         let may_be_known = named || !names.is_empty() || is_one_answerable(passes.as_slice());
         let finding = finding_of(passes.as_slice());
         let passes = Passes::new(alloc, passes)?;
@@ -96,6 +102,7 @@ impl RulePasses {
             may_be_known,
             finding,
             names,
+            endings,
         })
     }
 
@@ -163,6 +170,13 @@ impl RulePasses {
         ensures { result.now ≡ asked_names self.now }
     {
         self.names.as_slice()
+    }
+
+    /// The ends of the values that the commands seek in all attributes.
+    pub(crate) fn endings(&self) -> &[Text]
+        ensures { result.now ≡ map ending (asked_values self.now) }
+    {
+        self.endings.as_slice()
     }
 }
 

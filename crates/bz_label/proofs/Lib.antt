@@ -1,8 +1,11 @@
 pub mod Cuts
+pub mod Endings
 mod Decoding
 mod Examples
 pub mod LabelSets
 pub mod LastBytes
+pub mod PlainValues
+pub mod Standing
 mod LastParts
 pub mod Literals
 pub mod ValueForms

@@ -1,6 +1,7 @@
 pub mod Arguments
 pub mod LabelSetViews
 pub mod LabelViews
+pub mod Endings
 pub mod Labels
 pub mod Literals
 pub mod Names

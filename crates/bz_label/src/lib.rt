@@ -31,7 +31,7 @@ pub use list::{Seq, Text};
 pub use literal::Literal;
 pub use names::is_kind;
 pub use package::Package;
-pub use parts::cut;
+pub use parts::{cut, ending};
 pub use sorted_labels::SortedLabels;
 pub use target::{Marked, Target};
 pub use value::{has_value, plain_text, quote, value_is};

@@ -3,6 +3,8 @@
 ghost use Rattle.std.specs.Prelude.{◌≡◌, ◌==◌, ◌<◌, length, MatchOption, IfSome, [], ◌∷◌};
 ghost use Rattle.std.specs.List.{slice_split};
 ghost use Rattle.std.specs.Str.{IsUtf8};
+ghost use Rattle.bz_label.specs.Endings as spec;
+ghost use Rattle.bz_label.specs.Labels.{last_part};
 
 /// Cuts a text at the first such character: what is before it, and what is after it. None: the character is not in it.
 pub fn cut(text: &str, at: char) -> Option<(&str, &str)>
@@ -15,4 +17,23 @@ pub fn cut(text: &str, at: char) -> Option<(&str, &str)>
 {
     let (part, rest) = text.split_once(at)?;
     Some((part, rest))
+}
+
+/// What is after the last such character of a text; all of it, if the character is not in it.
+fn after_last(text: &str, at: char) -> &str
+    requires { at < 128 }
+    ensures { result.now ≡ last_part (slice_split (λ b. b == at) text.now) }
+{
+    let mut end = text;
+    while let Some((_, rest)) = cut(end, at) {
+        end = rest;
+    }
+    end
+}
+
+/// What is after the last colon or slash of a text. Texts that are the same label end alike.
+pub fn ending(text: &str) -> &str
+    ensures { result.now ≡ spec.ending text.now }
+{
+    after_last(after_last(text, ':'), '/')
 }

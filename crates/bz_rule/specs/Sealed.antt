@@ -1,8 +1,9 @@
--- Rules with sealed arguments: arguments that no command of a script mentions are hidden behind others.
+-- Rules with sealed arguments: arguments that no command of a script looks at are hidden behind others.
 -- Begin with `attributes_of`, `IsSealed` and `NotSeen`.
-use Rattle.std.specs.Prelude.{◌≡◌, ℕ, ◌+◌, List, [], ◌∷◌, ◌++◌, length, Bool, false, Option, None, Some, codes, suc, zero}
+use Rattle.std.specs.Prelude.{◌≡◌, ◌||◌, ℕ, ◌+◌, List, [], ◌∷◌, ◌++◌, length, Bool, false, ◌&&◌, Option, None, Some, codes, option_map, suc, zero}
 use Rattle.std.specs.List.{flat_map, list_any}
-use Rattle.bz_label.specs.declared.arguments.Attributes.TheVariants.{Named}
+use Rattle.bz_label.specs.declared.arguments.Attributes.TheVariants.{Every, Named}
+use Rattle.bz_label.specs.declared.arguments.Chosen.TheVariants.{Values}
 use Rattle.bz_label.specs.declared.arguments.Commented.{Commented}
 use Rattle.bz_label.specs.declared.arguments.Commented.TheVariants.{Rule as Above, Attribute, Value}
 use Rattle.bz_rule.specs.declared.commands.field.Field.{Field}
@@ -14,7 +15,10 @@ use Rattle.bz_tree.specs.Tree.{Segment, Statement}
 use Rattle.bz_attribute.specs.Marks.{marks}
 use Rattle.bz_attribute.specs.Rules.{Rule, is_named, name_in, rule_of}
 use Rattle.bz_attribute.specs.Texts.{shown_text}
+use Rattle.bz_attribute.specs.Lists.{is_attribute}
+use Rattle.bz_attribute.specs.Reports.{chooses}
 use Rattle.bz_rule.specs.Print.{fields_of}
+use Rattle.bz_rule.specs.Reports.{replaces_in}
 use Rattle.bz_token.specs.Common.{map_or}
 use Rattle.bz_rule.specs.Commands.{Command, after, done_of}
 use Rattle.bz_rule.specs.declared.command.Action.TheVariants.{Add, Comment, Delete, Move, Print, Remove, Rename, Replace, Set, SetIfAbsent}
@@ -34,7 +38,8 @@ attributes_printed Label = codes "name" ∷ []
 attributes_printed (ValueOf attr) = attr ∷ []
 attributes_printed _ = []
 
--- The attributes that a command mentions: it looks at no argument of another name, and changes none. None: it may look at them all, as where it has `*`.
+-- The attributes that a command mentions: it looks at no argument of another name, and changes none, but those with a value that it
+-- seeks in all. None: it may look at each.
 abbrev pub attributes_of : Command → Option (List (List ℕ))
 attributes_of (Add attr values) = Some (attr ∷ [])
 attributes_of (Remove (Named attr) values) = Some (attr ∷ [])
@@ -46,45 +51,68 @@ attributes_of (Move old new moved) = Some (old ∷ new ∷ [])
 attributes_of (Replace (Named attr) old new) = Some (attr ∷ [])
 attributes_of (Comment place text) = Some (attributes_commented place)
 attributes_of (Print fields) = Some (flat_map attributes_printed (fields_of fields))
+attributes_of (Remove Every (v ∷ values)) = Some []
+attributes_of (Replace Every old new) = Some []
 attributes_of _ = None
+
+-- the values that a command with `*` seeks in all attributes
+abbrev pub values_sought : Command → List (List ℕ)
+values_sought (Remove Every values) = values
+values_sought (Replace Every old new) = old ∷ []
+values_sought _ = []
 
 -- one of the names is that of the argument
 abbrev pub is_among : List (List ℕ) → Segment → Bool
 is_among names a = list_any (λ name. is_named name a) names
 
--- A sealed argument stands for a run of others: none of the names is that of one of them, or its own, and it is like them.
-pub record StandsFor (like : List Segment → Segment → Type 0) (names : List (List ℕ)) (run : List Segment) (sealed : Segment) : Type 0 where
-  pub unasked : list_any (is_among names) run ≡ false
-  pub unnamed : is_among names sealed ≡ false
+-- an argument has one of the names, or one of the values in a list
+abbrev pub is_asked_for : List (List ℕ) → List (List ℕ) → Package → Segment → Bool
+is_asked_for names values home a = is_among names a || chooses home (Values values) a
+
+-- The arguments that a command looks at: it sees no other, and changes none. With `*`, those in which it changes a value. None: it
+-- may look at each.
+abbrev pub looks_at : Command → Package → Option (Segment → Bool)
+looks_at (Remove Every (v ∷ values)) home = Some (λ a. is_attribute a && chooses home (Values (v ∷ values)) a)
+looks_at (Replace Every old new) home = Some (λ a. is_attribute a && replaces_in home old new a)
+looks_at c home = option_map (λ names. is_among names) (attributes_of c)
+
+-- all that one test finds, the other finds too
+abbrev pub Covers : (Segment → Bool) → (Segment → Bool) → Type 0
+Covers asks looks = (a : Segment) → asks a ≡ false → looks a ≡ false
+
+-- A sealed argument stands for a run of others: none of them is asked for, nor is it, and it is like them.
+pub record StandsFor (like : List Segment → Segment → Type 0) (asks : Segment → Bool) (run : List Segment) (sealed : Segment) : Type 0 where
+  pub unasked : list_any asks run ≡ false
+  pub unnamed : asks sealed ≡ false
   pub alike : like run sealed
 
 -- Arguments, and the same where some of them, so many, are sealed: runs of neighbours, each as one.
-pub data AreSealed (like : List Segment → Segment → Type 0) (names : List (List ℕ)) : ℕ → List Segment → List Segment → Type 0 where
-  all_done : AreSealed like names zero [] []
+pub data AreSealed (like : List Segment → Segment → Type 0) (asks : Segment → Bool) : ℕ → List Segment → List Segment → Type 0 where
+  all_done : AreSealed like asks zero [] []
   -- an argument as it is
-  same : {count : ℕ} {args others : List Segment} (a : Segment) → AreSealed like names count args others → AreSealed like names count (a ∷ args) (a ∷ others)
-  sealed : {count : ℕ} {args others run : List Segment} {a t : Segment} → StandsFor like names (a ∷ run) t → AreSealed like names count args others
-      → AreSealed like names (suc (length run + count)) (a ∷ (run ++ args)) (t ∷ others)
+  same : {count : ℕ} {args others : List Segment} (a : Segment) → AreSealed like asks count args others → AreSealed like asks count (a ∷ args) (a ∷ others)
+  sealed : {count : ℕ} {args others run : List Segment} {a t : Segment} → StandsFor like asks (a ∷ run) t → AreSealed like asks count args others
+      → AreSealed like asks (suc (length run + count)) (a ∷ (run ++ args)) (t ∷ others)
 
 -- A rule, and the same rule where so many of its arguments are sealed.
-pub record IsSealed (like : List Segment → Segment → Type 0) (names : List (List ℕ)) (count : ℕ) (s t : Statement) : Type 0 where
+pub record IsSealed (like : List Segment → Segment → Type 0) (asks : Segment → Bool) (count : ℕ) (s t : Statement) : Type 0 where
   pub rule : Rule
   pub args : List Segment
   pub read : rule_of s.nodes ≡ Some rule
   pub read_sealed : rule_of t.nodes ≡ Some (record rule { args = args })
-  pub are_sealed : AreSealed like names count rule.args args
+  pub are_sealed : AreSealed like asks count rule.args args
   -- the comments, the class and the lines are the same
   pub rest : t ≡ record s { nodes = t.nodes }
 
 -- slots with nothing in both, or with a rule and the same rule where so many of its arguments are sealed
-pub data SlotsSealed (like : List Segment → Segment → Type 0) (names : List (List ℕ)) (count : ℕ) : Option Statement → Option Statement → Type 0 where
-  both_empty : SlotsSealed like names count None None
-  both_rules : {s t : Statement} → IsSealed like names count s t → SlotsSealed like names count (Some s) (Some t)
+pub data SlotsSealed (like : List Segment → Segment → Type 0) (asks : Segment → Bool) (count : ℕ) : Option Statement → Option Statement → Type 0 where
+  both_empty : SlotsSealed like asks count None None
+  both_rules : {s t : Statement} → IsSealed like asks count s t → SlotsSealed like asks count (Some s) (Some t)
 
 -- The command does not see what is sealed: it tells the same, does the same, and leaves each sealed argument as it is.
-pub record NotSeen (like : List Segment → Segment → Type 0) (names : List (List ℕ)) (c : Command) (home : Package) : Type 0 where
-  pub told : (count : ℕ) (slot other : Option Statement) → SlotsSealed like names count slot other → done_of c home slot ≡ done_of c home other
-  pub left : (count : ℕ) (slot other : Option Statement) → SlotsSealed like names count slot other → SlotsSealed like names count (after c home slot) (after c home other)
+pub record NotSeen (like : List Segment → Segment → Type 0) (asks : Segment → Bool) (c : Command) (home : Package) : Type 0 where
+  pub told : (count : ℕ) (slot other : Option Statement) → SlotsSealed like asks count slot other → done_of c home slot ≡ done_of c home other
+  pub left : (count : ℕ) (slot other : Option Statement) → SlotsSealed like asks count slot other → SlotsSealed like asks count (after c home slot) (after c home other)
 
 -- the name of the rule that a statement is
 abbrev pub name_told : Statement → Option (List ℕ)

@@ -1,6 +1,6 @@
 //! The commands on one rule: what each is, how its words are read, and what it makes of the arguments of a rule.
 //! `reader.rt` calls `read_named`, `row_edit.rt` `edit_arguments`, and crates above `one_attribute`, `attributes_of`,
-//! `values_of` and `is_print`.
+//! `values_sought`, `values_of` and `is_print`.
 
 ghost use Rattle.bz_memory.specs.NoMemory.{no_memory};
 ghost use Rattle.std.specs.Prelude.{◌≡◌, ◌≢◌, ◌∷◌, ◌++◌, [], Err, IfOk, IfSome, OnOk, Some, map, option_map, true};
@@ -351,8 +351,8 @@ pub fn one_attribute(command: &Command) -> Option<&str>
     }
 }
 
-/// The attributes that a command mentions: it looks at no argument of another name, and changes none. None: it looks at
-/// them all.
+/// The attributes that a command mentions: it looks at no argument of another name, and changes none, but those with a
+/// value that it seeks in all (`values_sought`). None: it may look at each.
 pub fn attributes_of<'c>(
     alloc: Global,
     command: &'c Command,
@@ -364,7 +364,10 @@ pub fn attributes_of<'c>(
         Action::Add(attr, _) | Action::SetIfAbsent(attr, _) => one_name(alloc, attr),
         Action::Remove(Attributes::Named(attr), _) => one_name(alloc, attr),
         Action::Replace(Attributes::Named(attr), _, _) => one_name(alloc, attr),
-        Action::Remove(Attributes::Every, _) | Action::Replace(Attributes::Every, _, _) => Ok(None),
+        Action::Remove(Attributes::Every, values) if values.as_slice().is_empty() => Ok(None),
+        Action::Remove(Attributes::Every, _) | Action::Replace(Attributes::Every, _, _) => {
+            Ok(Some(Vec::new(alloc)))
+        }
         Action::Set(Setting::ToValues(attr, _)) => one_name(alloc, attr),
         Action::Comment(Commented::Attribute(attr) | Commented::Value(attr, _), _) => {
             one_name(alloc, attr)
@@ -374,6 +377,17 @@ pub fn attributes_of<'c>(
         Action::Set(Setting::ToKind(_)) | Action::Comment(Commented::Rule, _) | Action::Delete => {
             Ok(Some(Vec::new(alloc)))
         }
+    }
+}
+
+/// The values that a command with `*` seeks in all attributes.
+pub fn values_sought(command: &Command) -> Values<'_>
+    ensures { listed result ≡ sealed.values_sought command.now }
+{
+    match &command.action {
+        Action::Remove(Attributes::Every, values) => Values::Listed(values.as_slice()),
+        Action::Replace(Attributes::Every, old, _) => Values::One(old.as_str()),
+        _ => Values::None,
     }
 }
 

@@ -1,28 +1,25 @@
 //! Laws of rules with sealed arguments: no command and no target tells one from the rule.
 
 ghost use Rattle.std.specs.Prelude.{◌≡◌, ℕ, Bool, List, Some, codes, true};
-ghost use Rattle.std.specs.List.{list_all};
-ghost use Rattle.bz_token.specs.Common.{is_one_of};
+ghost use Rattle.bz_attribute.specs.Rules.{is_named};
 ghost use Rattle.bz_label.specs.Labels.{Package};
 ghost use Rattle.bz_tree.specs.Tree.{Segment, Statement};
 ghost use Rattle.bz_rule.specs.Commands.{Command};
-ghost use Rattle.bz_rule.specs.Sealed.{AreShownAlike, IsSealed, NotSeen, attributes_of};
+ghost use Rattle.bz_rule.specs.Sealed.{AreShownAlike, Covers, IsSealed, NotSeen, looks_at};
 
-/// A command that mentions no attributes but some of the names sees nothing of the arguments that are sealed, which
-/// have none of the names, be it one by one or runs of neighbours as one: it tells the same as of the rule, does the
-/// same, and leaves as many of them. That holds however what is sealed is like what it stands for, so each is left to
-/// stand for the same arguments.
+/// A command that looks at no arguments but some that are asked for sees nothing of those that are sealed, which are not,
+/// be it one by one or runs of neighbours as one: it tells the same as of the rule, does the same, and leaves as many of
+/// them. That holds however what is sealed is like what it stands for, so each is left to stand for the same arguments.
 pub fn sealed_arguments_are_not_seen()
-    ensures { (like : List Segment → Segment → Bool) (names mentioned : List (List ℕ)) (c : Command)
-        (home : Package)
-        → attributes_of c ≡ Some mentioned → list_all (is_one_of names) mentioned ≡ true
-        → NotSeen (λ run t. like run t ≡ true) names c home }
+    ensures { (like : List Segment → Segment → Bool) (asks looks : Segment → Bool) (c : Command)
+        (home : Package) → looks_at c home ≡ Some looks → Covers asks looks
+        → NotSeen (λ run t. like run t ≡ true) asks c home }
 {}
 
-/// Where `name` is one of the names, a target marks a rule with sealed arguments as the rule, and it is shown as that.
+/// Where the argument `name` is asked for, a target marks a rule with sealed arguments as the rule, and it is shown as that.
 pub fn sealed_rules_are_shown_alike()
-    ensures { (like : List Segment → Segment → Bool) (names : List (List ℕ))
-        → is_one_of names (codes "name") ≡ true
-        → (count : ℕ) (s t : Statement) → IsSealed (λ run t. like run t ≡ true) names count s t
+    ensures { (like : List Segment → Segment → Bool) (asks : Segment → Bool)
+        → Covers asks (is_named (codes "name"))
+        → (count : ℕ) (s t : Statement) → IsSealed (λ run t. like run t ≡ true) asks count s t
         → AreShownAlike s t }
 {}

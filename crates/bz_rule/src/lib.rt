@@ -15,7 +15,7 @@ mod texts;
 pub use bz_attribute::{Done, Note, label, matches};
 pub use bz_label::{LabelFault, Package, Target, Text, quote, read_label, same, value_is};
 pub use command::{
-    Command, CommandFault, LEFT_OUT, USAGE, attributes_of, one_attribute, values_of,
+    Command, CommandFault, LEFT_OUT, USAGE, attributes_of, one_attribute, values_of, values_sought,
 };
 pub use commands::field::{Field, NO_SUCH_FIELD, is_left_out_field};
 pub use reader::read_command;

@@ -4,7 +4,8 @@
 use crate::checks::{check_table, read};
 use crate::labels::package;
 use bz_layout::put_stmt;
-use bz_rule::{Command, Done, Note, Package, apply, read_command};
+use bz_rule::forms::Values;
+use bz_rule::{Command, Done, Note, Package, apply, read_command, values_sought};
 use bz_tree::Stmt;
 use std::alloc::Global;
 use std::test::Fail;
@@ -221,6 +222,32 @@ fn shown_words(alloc: Global, words: &str) -> Result<String, Fail> {
 #[test]
 fn words_of_commands(rt: HostRuntime) -> Result<(), Fail> {
     check_table(&rt, rt.alloc(), WORDS, shown_words)
+}
+
+/// Commands, and the values that they seek in all attributes.
+const SOUGHT: &str = r##"
+replace * //a:b c ! one //a:b
+remove * a b ! a b
+remove deps a ! none
+replace deps a b ! none"##;
+
+fn shown_sought(alloc: Global, words: &str) -> Result<String, Fail> {
+    let command = read_command(alloc, words)?.ok_or("a row without a command")?;
+    let shown = match values_sought(&command) {
+        Values::Listed([first, second]) => format!(in alloc;
+            "{} {}",
+            first.as_str(),
+            second.as_str()
+        )?,
+        Values::One(value) => format!(in alloc; "one {value}")?,
+        _ => String::from_str(alloc, "none")?,
+    };
+    Ok(shown)
+}
+
+#[test]
+fn values_sought_by_commands(rt: HostRuntime) -> Result<(), Fail> {
+    check_table(&rt, rt.alloc(), SOUGHT, shown_sought)
 }
 
 /// Commands and statements, and why nothing is done to them.

@@ -3,6 +3,7 @@
 use crate::checks::{check, check_table, check_value, statement};
 use crate::table::{cut_rows, plain};
 use bumpalo::Bump;
+use bz_label::ending;
 use bz_rule::{
     Package, StatementRow, Target, label, matches, quote, read_label, same, shown, value_is,
 };
@@ -251,6 +252,24 @@ fn shown_same(alloc: Global, asked: &str) -> Result<String, Fail> {
 #[test]
 fn same_labels(rt: HostRuntime) -> Result<(), Fail> {
     check_table(&rt, rt.alloc(), SAME, shown_same)
+}
+
+/// Texts, and what is after their last colon or slash.
+const ENDINGS: &str = r##"
+//a/b:c ! c
+//a/b ! b
+:x ! x
+x ! x
+@r//a:b/c ! c
+a/b:c:d ! d"##;
+
+fn shown_ending(alloc: Global, text: &str) -> Result<String, Fail> {
+    Ok(String::from_str(alloc, ending(text))?)
+}
+
+#[test]
+fn endings(rt: HostRuntime) -> Result<(), Fail> {
+    check_table(&rt, rt.alloc(), ENDINGS, shown_ending)
 }
 
 /// Labels and statements, and whether they are marked.

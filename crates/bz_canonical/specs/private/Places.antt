@@ -11,7 +11,7 @@ alone attr args = option_to_list (first_named attr args)
 
 -- the span of no argument, at these places in the chunk and in what is written
 abbrev pub no_lines : ℕ → ℕ → ArgumentSpan
-no_lines at start = record { from = at; to = at; start = start; comma = start; end = start; named = None }
+no_lines at start = record { from = at; to = at; start = start; comma = start; end = start; named = None; sought = false }
 
 -- the first span of this name, or this one
 abbrev pub span_named : ℕ → ArgumentSpan → List ArgumentSpan → ArgumentSpan

@@ -2,7 +2,7 @@
 -- Begin with `IsMarking`.
 use Rattle.std.specs.Prelude.{◌≡◌, ℕ, ◌≤◌, Bool, true, ◌&&◌, codes, nat_le, bytes_eq, Some}
 use Rattle.bz_tree.specs.Tree.{Statement}
-use Rattle.bz_label.specs.Labels.{Package, Target, Name, Pkg, All, Kind, Line}
+use Rattle.bz_label.specs.Labels.{Target, Name, Pkg, All, Kind, Line}
 use Rattle.bz_attribute.specs.Rules.{Rule, kind_text, name_in, rule_of}
 use Rattle.bz_passes.specs.Exchange.{IsPassedBy}
 use Rattle.bz_engine.specs.Failing.{changes, fails_on}

@@ -1,15 +1,15 @@
 -- The attributes that a script mentions, and rules of which other arguments are sealed, for private clauses.
 -- Begin with `asked_names` and `IsSealedRule`.
 use Rattle.std.specs.Prelude.{◌≡◌, ◌≤◌, ◌⊎◌, ℕ, Bool, false, true, ◌&&◌, if◌then◌else◌, List, [], ◌∷◌, ◌++◌, length, Option, None, Some, codes, nat_le, option_and_then, unwrap_or}
-use Rattle.std.specs.List.{list_all}
+use Rattle.std.specs.List.{flat_map, list_all}
 use Rattle.bz_token.specs.Common.{map_or, is_one_of}
 use Rattle.bz_tree.specs.Tree.{Segment, Statement}
 use Rattle.bz_canonical.specs.SealedRules.{are_alike}
 use Rattle.bz_passes.specs.Passes.{Pass}
 use Rattle.bz_label.specs.Labels.{Target}
 use Rattle.bz_rule.specs.Commands.{Command}
-use Rattle.bz_rule.specs.Sealed.{IsSealed, attributes_of}
-use Rattle.bz_engine.specs.Outcome.{Script}
+use Rattle.bz_rule.specs.Sealed.{IsSealed, attributes_of, is_asked_for, values_sought}
+use Rattle.bz_engine.specs.Outcome.{Run, Script}
 
 -- what some steps make of names one after another, if none of them gives up
 abbrev pub by_each : {A : Type 0} → (List (List ℕ) → A → Option (List (List ℕ))) → List (List ℕ) → List A → Option (List (List ℕ))
@@ -27,9 +27,17 @@ with_command names c = option_and_then (by_each with_name names) (attributes_of 
 abbrev pub with_pass : List (List ℕ) → Pass Target Command → Option (List (List ℕ))
 with_pass names p = by_each with_command names p.commands
 
--- the attributes that the script mentions, and `name`, each once; none, if it may look at others
+-- the values that the script seeks in all attributes
+abbrev pub asked_values : Script → List (List ℕ)
+asked_values passes = flat_map (λ (p : Pass Target Command). flat_map values_sought p.commands) passes
+
+-- the attributes that the script mentions, and `name`, each once; none, if it may look at others, or seeks more than 8 values
 abbrev pub asked_names : Script → List (List ℕ)
-asked_names passes = unwrap_or (by_each with_pass (codes "name" ∷ []) passes) []
+asked_names passes = if nat_le (length (asked_values passes)) 8 then unwrap_or (by_each with_pass (codes "name" ∷ []) passes) [] else []
+
+-- an argument of which the script may see something
+abbrev pub is_asked_in : Run → Segment → Bool
+is_asked_in run = is_asked_for (asked_names run.passes) (asked_values run.passes) run.home
 
 -- the command mentions some of the names alone
 abbrev pub is_covered : List (List ℕ) → Command → Bool
@@ -47,8 +55,8 @@ HasLinesOf run t = are_alike run t ≡ true
 abbrev pub IsNoneOrMore : ℕ → Type 0
 IsNoneOrMore count = (count ≡ 0) ⊎ (2 ≤ count)
 
--- A rule, and the same rule where arguments of other names are sealed.
-pub record IsSealedRule (names : List (List ℕ)) (s t : Statement) : Type 0 where
+-- A rule, and the same rule where arguments are sealed that are not asked for.
+pub record IsSealedRule (asks : Segment → Bool) (s t : Statement) : Type 0 where
   pub count : ℕ
   pub enough : IsNoneOrMore count
-  pub sealed : IsSealed HasLinesOf names count s t
+  pub sealed : IsSealed HasLinesOf asks count s t

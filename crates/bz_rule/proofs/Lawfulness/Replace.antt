@@ -84,7 +84,7 @@ lists_stay home old new (ss ∷ lists) h =
     let both = or_parts (list_any (is_replaced home old new) ss) (list_any (list_any (is_replaced home old new)) lists) h in
     rw (elements_stay home old new ss both.0) (ap (λ (ls : List (List Segment)). ss ∷ ls) (lists_stay home old new lists both.1))
 
-argument_stays : (home : Package) (old new : List ℕ) (a : Segment) → replaces_in home old new a ≡ false → replaced_in home old new a ≡ a
+pub argument_stays : (home : Package) (old new : List ℕ) (a : Segment) → replaces_in home old new a ≡ false → replaced_in home old new a ≡ a
 argument_stays home old new a h =
     ap (λ (v : List Item). with_value v a) (parts_stay (map (replaced home old new)) (value a) (lists_stay home old new (parts (value a)) h)) ∙ value_back a
 

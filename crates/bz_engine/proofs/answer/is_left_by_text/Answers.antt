@@ -1,6 +1,5 @@
-use Rattle.std.proofs.Common.{◌≡◌, ℕ, List, Bor, false, sym, subst}
-use Rattle.std.specs.Prelude.{Option, None, option_map}
-use Rattle.bz_rule.specs.Commands.{Command}
+use Rattle.std.proofs.Common.{ℕ, List, Bor, false, sym, subst}
+use Rattle.std.specs.Prelude.{Option, option_map}
 use Rattle.bz_engine.specs.private.Found.{Makes, told_line}
 use Rattle.bz_engine.proofs.TextAnswers.{looked_at_stays}
 use Rattle.bz_engine.proofs.answer.is_left_by_text.Goals as goal

@@ -1,9 +1,8 @@
-use Rattle.std.proofs.Common.{ℕ, List, length, drop, subst, sym, ap, ◌∙◌}
+use Rattle.std.proofs.Common.{ℕ, List, subst, sym, ◌∙◌}
 use Rattle.std.proofs.lemmas.Bool.{not-false}
 use Rattle.std.specs.Prelude.{Option, IfSome, option_map}
 use Rattle.bz_canonical.specs.Canonical.{HasPlace, between}
 use Rattle.bz_canonical.specs.declared.place.ArgumentPlace.{ArgumentPlace}
-use Rattle.bz_engine.specs.private.Renamed.{TakesName}
 use Rattle.bz_engine.proofs.CanonicalChunks.{same_bytes}
 use Rattle.bz_engine.proofs.Renamed.{name_taken}
 use Rattle.bz_engine.proofs.marked_rule.name_place.Goals as goal

@@ -1,6 +1,5 @@
-use Rattle.std.proofs.Common.{◌≡◌, ℕ, ◌+◌, true, false, None, Some, arith, ap, length, subst, sym, ◌∙◌, tests}
+use Rattle.std.proofs.Common.{◌+◌, None, Some, arith, ap, length, subst, sym, ◌∙◌}
 use Rattle.std.proofs.lemmas.Bool.{false≢true}
-use Rattle.std.specs.Prelude.{Option}
 use Rattle.bz_label.specs.Labels.{Target}
 use Rattle.bz_passes.specs.Asked.{IsFirstFrom}
 use Rattle.bz_passes.specs.Passes.{Pass}

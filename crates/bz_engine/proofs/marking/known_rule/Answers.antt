@@ -1,5 +1,5 @@
-use Rattle.std.proofs.Common.{◌≡◌, ℕ, ◌+◌, List, Bor, refl, ap}
-use Rattle.std.specs.Prelude.{Option, Some, option_map}
+use Rattle.std.proofs.Common.{ℕ, ◌+◌, List, Bor, refl, ap}
+use Rattle.std.specs.Prelude.{option_map}
 use Rattle.bz_engine.proofs.MarkedRules.{rule_known}
 use Rattle.bz_engine.proofs.marking.known_rule.Goals as goal
 

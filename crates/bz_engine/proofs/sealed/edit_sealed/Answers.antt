@@ -17,7 +17,7 @@ returns-then-is_passed_by c =
     laid_found run found old c.put_canonical.new.progress c.args.text.now.items c.put_canonical.new.text.items
     (subst (λ (p : Progress). Fits p.kept run.passes) (sym put.last) c.requires.fits) (ap (λ (p : Progress). p.line) put.last) (λ s is.
     let here = subst (λ n. IsFoundOn run.max_depth n found s) (sym (ap (λ p. p.line) c.progress.view_is)) is in
-    let known = sealed_of c.progress.inside.line run.max_depth run.passes found c.in-Some.noted c.requires.spans c.requires.noted c.in-Some.ensures s here in
+    let known = sealed_of c.progress.inside.line run found c.in-Some.noted c.requires.spans c.requires.noted c.in-Some.ensures s here in
     passed_by run found.chunk.class s old c.put_canonical.new.progress c.args.text.now.items c.put_canonical.new.text.items
     (c.is_passed_by.ensures c.if-is_passed_by.true s known.head) (sym is.is.class_is) put.last (put.text s is.is.class_is is.is.written))
 
