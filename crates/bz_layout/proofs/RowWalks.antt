@@ -1,14 +1,20 @@
 -- The walk forwards, some parts at a time.
-use Rattle.std.proofs.Common.{◌≡◌, codes, ◌+◌, ◌-◌, ◌≤◌, ◌<◌, ℕ, zero, suc, List, [], ◌∷◌, ◌++◌, append_assoc, map, take, drop, get_or, reverse, length, length-append, Bool, true, false, if◌then◌else◌, refl, ap, sym, ◌∙◌, arith}
+use Rattle.std.proofs.Common.{◌≡◌, codes, ◌+◌, ◌-◌, ◌≤◌, ◌<◌, ℕ, zero, suc, List, [], ◌∷◌, ◌++◌, append_assoc, map, take, drop, get_or, reverse, length, length-append, Bool, true, false, Option, Some, if◌then◌else◌, refl, ap, sym, ◌∙◌, arith}
 use Rattle.std.proofs.lemmas.List.{drop-map, drop_more, length-map, take_at, take-append-drop, take_rest}
 use Rattle.bz_token.specs.declared.token.Kind.{Kind}
+use Rattle.bz_token.specs.declared.token.Kind.TheVariants.{Identifier, Operator as OperatorToken}
+use Rattle.bz_tree.specs.declared.tree.GroupKind.{GroupKind}
+use Rattle.bz_tree.specs.declared.tree.GroupKind.TheVariants.{Index}
+use Rattle.bz_tree.specs.Tree.{leaf}
 use Rattle.bz_tree.specs.Rows.{RowPart, a_token, opening, closing, segment_end, above, beside}
-use Rattle.bz_layout.specs.declared.spacing.Edge.TheVariants.{Start}
+use Rattle.bz_layout.specs.declared.spacing.Edge.{Edge}
+use Rattle.bz_layout.specs.declared.spacing.Edge.TheVariants.{Start, Operator, Operand}
 use Rattle.bz_layout.specs.declared.spacing.Gap.TheVariants.{Line}
 use Rattle.bz_layout.specs.declared.walk.RowWriter.{RowWriter}
 use Rattle.bz_layout.specs.Pieces.{gap_bytes}
 use Rattle.bz_layout.specs.Respell.{respell}
-use Rattle.bz_layout.specs.private.RowLayout.{Laid, ended, laid, run, step, with_token}
+use Rattle.bz_layout.specs.Walked.{edge_after, no_space_before}
+use Rattle.bz_layout.specs.private.RowLayout.{Laid, laid, run, step}
 
 run_joined : (ps qs : List RowPart) (s : Laid) → run (ps ++ qs) s ≡ run qs (run ps s)
 run_joined [] qs s = refl
@@ -55,26 +61,48 @@ pub record IsLaidUpTo (all rest : List RowPart) (old new : Laid) : Type 0 where
   pub parts : all ≡ done ++ rest
   pub ok : new ≡ run done old
 
--- where segments have lines and commas, before one of them, with this text
-abbrev at_item : RowWriter → List ℕ → Laid
-at_item w text = record { text = text; marks = reverse w.marks.items; outer = reverse w.outer.items; here = record { within = w.here.within; mark = record { broken = true; comma = true }; later = w.here.later }; left = Start; level = w.level }
+-- in a broken bracket, after this text
+abbrev at_line : RowWriter → Bool → Edge → List ℕ → Laid
+at_line w comma left text = record { text = text; marks = reverse w.marks.items; outer = reverse w.outer.items; here = record { within = w.here.within; mark = record { broken = true; comma = comma }; later = w.here.later }; left = left; level = w.level }
 
-with_comma : (before gap text : List ℕ) → before ++ (gap ++ (text ++ codes ",")) ≡ (before ++ (gap ++ text)) ++ codes ","
-with_comma before gap text = ap (λ (xs : List ℕ). before ++ xs) (sym (append_assoc gap text (codes ","))) ∙ sym (append_assoc before (gap ++ text) (codes ","))
+with_tail : (before gap text tail : List ℕ) → before ++ (gap ++ (text ++ tail)) ≡ (before ++ (gap ++ text)) ++ tail
+with_tail before gap text tail = ap (λ (xs : List ℕ). before ++ xs) (sym (append_assoc gap text tail)) ∙ sym (append_assoc before (gap ++ text) tail)
 
 -- a token that is written as it stands, on a line of its own with its comma, and the end of its segment
 pub item_laid : (w : RowWriter) (before after text : List ℕ) (kind : Kind) → w.left ≡ Start → w.here.mark.broken ≡ true → w.here.mark.comma ≡ true → respell kind text ≡ text
-    → after ≡ before ++ (gap_bytes (Line w.level) ++ (text ++ codes ",")) → laid w after ≡ ended (with_token kind text (laid w before))
-item_laid w before after text kind at_start broken comma stays put = rw (put, at_start, broken, comma, stays) (ap (at_item w) (with_comma before (gap_bytes (Line w.level)) text))
+    → after ≡ before ++ (gap_bytes (Line w.level) ++ (text ++ codes ",")) → laid w after ≡ run (a_token kind text ∷ segment_end ∷ []) (laid w before)
+item_laid w before after text kind at_start broken comma stays put = rw (put, at_start, broken, comma, stays) (ap (at_line w true Start) (with_tail before (gap_bytes (Line w.level)) text (codes ",")))
 
--- one item more
-pub one_up : (all rest more : List RowPart) (kind : Kind) (text : List ℕ) (old mid new : Laid) → rest ≡ a_token kind text ∷ segment_end ∷ more → IsLaidUpTo all rest old mid → new ≡ ended (with_token kind text mid) → IsLaidUpTo all more old new
-one_up all rest more kind text old mid new seen upto laid =
-    let two = a_token kind text ∷ segment_end ∷ [] in
+equals_edge : (within : Option GroupKind) → edge_after within Operand (leaf OperatorToken (codes "=")) ≡ Operator
+equals_edge (Some Index) = refl
+equals_edge _ = refl
+
+abbrev named : RowWriter → RowWriter
+named w = record w { left = Operator }
+
+-- the name of an argument on a line of its own, and its sign
+pub name_laid : (w : RowWriter) (before after name : List ℕ) → w.left ≡ Start → w.here.mark.broken ≡ true → after ≡ before ++ (gap_bytes (Line w.level) ++ (name ++ codes " ="))
+    → laid (named w) after ≡ run (a_token Identifier name ∷ a_token OperatorToken (codes "=") ∷ []) (laid w before)
+name_laid w before after name at_start broken put = rw (put, at_start, broken, equals_edge w.here.within) (ap (at_line w w.here.mark.comma Operator) (with_tail before (gap_bytes (Line w.level)) name (codes " =")))
+
+value_laid : (w : RowWriter) (before after text : List ℕ) (kind : Kind) → w.left ≡ Start → w.here.mark.broken ≡ true → w.here.mark.comma ≡ true → respell kind text ≡ text → no_space_before (leaf kind text) ≡ false
+    → after ≡ before ++ (codes " " ++ (text ++ codes ",")) → laid w after ≡ run (a_token kind text ∷ segment_end ∷ []) (laid (named w) before)
+value_laid w before after text kind at_start broken comma stays apart put = rw (put, at_start, broken, comma, stays, apart) (ap (at_line w true Start) (with_tail before (codes " ") text (codes ",")))
+
+-- an argument of one token
+pub argument_laid : (w : RowWriter) (before mid after name text : List ℕ) (kind : Kind) → w.left ≡ Start → w.here.mark.broken ≡ true → w.here.mark.comma ≡ true → respell kind text ≡ text → no_space_before (leaf kind text) ≡ false
+    → mid ≡ before ++ (gap_bytes (Line w.level) ++ (name ++ codes " =")) → after ≡ mid ++ (codes " " ++ (text ++ codes ","))
+    → laid w after ≡ run (a_token Identifier name ∷ a_token OperatorToken (codes "=") ∷ a_token kind text ∷ segment_end ∷ []) (laid w before)
+argument_laid w before mid after name text kind at_start broken comma stays apart put last =
+    value_laid w mid after text kind at_start broken comma stays apart last ∙ ap (run (a_token kind text ∷ segment_end ∷ [])) (name_laid w before mid name at_start broken put)
+
+-- some parts more
+pub more_up : (all rest seen more : List RowPart) (old mid new : Laid) → rest ≡ seen ++ more → IsLaidUpTo all rest old mid → new ≡ run seen mid → IsLaidUpTo all more old new
+more_up all rest seen more old mid new is upto laid =
     record {
-      done = upto.done ++ two;
-      parts = upto.parts ∙ (ap (λ qs. upto.done ++ qs) seen ∙ sym (append_assoc upto.done two more));
-      ok = laid ∙ (ap (run two) upto.ok ∙ sym (run_joined upto.done two old));
+      done = upto.done ++ seen;
+      parts = upto.parts ∙ (ap (λ qs. upto.done ++ qs) is ∙ sym (append_assoc upto.done seen more));
+      ok = laid ∙ (ap (run seen) upto.ok ∙ sym (run_joined upto.done seen old));
     }
 
 take_front : (xs ys : List RowPart) → take (length xs) (xs ++ ys) ≡ xs

@@ -1,13 +1,15 @@
 //! The walk forwards over the parts of a statement, which writes them: on lines for `row.rt`, on one line for
 //! `flat_text.rt`.
 
-ghost use Rattle.std.specs.Prelude.{◌≡◌, ◌<◌, ◌^◌, ◌+◌, ◌++◌, ℕ, List, true, IfOk, IsTrue, map, reverse};
+ghost use Rattle.std.specs.Prelude.{◌≡◌, ◌<◌, ◌^◌, ◌+◌, ◌++◌, ℕ, List, codes, true, false, IfOk, IsTrue, map, reverse};
 ghost use Rattle.bz_token.specs.declared.token.Kind.{Kind};
+ghost use Rattle.bz_tree.specs.Tree.{leaf};
 ghost use Rattle.bz_tree.specs.Rows.{part_view};
 ghost use Rattle.bz_layout.specs.declared.spacing.Edge.TheVariants.{Start};
 ghost use Rattle.bz_layout.specs.Pieces.{gap_bytes};
 ghost use Rattle.bz_layout.specs.Respell.{respell};
-ghost use Rattle.bz_layout.specs.Walked.{gap_for};
+ghost use Rattle.bz_layout.specs.declared.spacing.Gap.TheVariants.{Line};
+ghost use Rattle.bz_layout.specs.Walked.{gap_for, no_space_before};
 ghost use Rattle.bz_layout.specs.private.RowLayout.{Puts, Lays, LaysAlso, due, top, first_gap, start, with_token, opened, closed_by, ended, step, run, laid};
 
 use crate::append::NewLine;
@@ -43,6 +45,25 @@ pub(crate) struct RowWriter<'b> {
     pub(crate) left: Edge,
     // That of the line which is being written.
     pub(crate) level: usize,
+}
+
+// Whether a token is no operator and written as it stands; not told of each that is.
+#[inline(always)]
+fn is_operand(kind: Kind, text: &str) -> bool
+    ensures stays { IsTrue result → respell kind text.now ≡ text.now }
+    ensures apart { IsTrue result → no_space_before (leaf kind text.now) ≡ false }
+{
+    !matches!(kind, Kind::Operator) && stays(kind, text)
+}
+
+// The value after the sign of an argument, with the comma after it.
+#[inline(always)]
+fn put_value<T: NewLine>(text: &str, out: &mut T) -> Result<(), NoMemory>
+    ensures { Puts result (T.bytes out.old) (T.bytes out.new) (codes " " ++ (text.now ++ codes ",")) }
+{
+    out.put_short(" ")?;
+    out.put(text)?;
+    out.put_short(",")
 }
 
 impl OpenBracket {
@@ -133,66 +154,62 @@ impl<'b> RowWriter<'b> {
         )
     }
 
-    // The tokens that the parts begin with and that stay, each with the end of its segment. Answers how many parts were
-    // written.
+    // The name of an argument on a line of its own, and its sign.
     #[inline(always)]
-    fn items<T: NewLine>(&self, parts: &[Part<'_>], out: &mut T) -> Result<usize, NoMemory>
-        requires start { self.now.left ≡ Start }
-        requires broken { self.now.here.mark.broken ≡ true }
-        requires comma { self.now.here.mark.comma ≡ true }
+    fn put_name<T: NewLine>(&self, name: &str, out: &mut T) -> Result<(), NoMemory>
+        ensures { Puts result (T.bytes out.old) (T.bytes out.new)
+            (gap_bytes (Line self.now.level) ++ (name.now ++ codes " =")) }
+    {
+        out.new_line(self.level)?;
+        out.put(name)?;
+        out.put(" =")
+    }
+
+    // What most segments are, where each has a line and a comma: a token that stays, or an argument of such a value; of an
+    // argument of another value its name and sign. Answers how many parts were written.
+    #[inline(never)]
+    fn segments<T: NewLine>(&mut self, parts: &[Part<'_>], out: &mut T) -> Result<usize, NoMemory>
+        requires start { self.old.left ≡ Start }
+        requires broken { self.old.here.mark.broken ≡ true }
+        requires comma { self.old.here.mark.comma ≡ true }
         ensures { LaysAlso result (λ s. s) (map part_view parts.now)
-            self.now (T.bytes out.old) self.now (T.bytes out.new) }
-    {
-        let level = self.level;
-        let mut rest = parts;
-        while let [Part::Token(kind, text), Part::End, after @ ..] = rest
-            && stays(*kind, text)
-        {
-            out.put_item(level, text)?;
-            rest = after;
-        }
-        Ok(parts.len() - rest.len())
-    }
-
-    // A token that stays, with the end of its segment, and those after it that the parts begin with.
-    #[inline(always)]
-    fn item<T: NewLine>(
-        &self,
-        text: &str,
-        parts: &[Part<'_>],
-        out: &mut T,
-    ) -> Result<usize, NoMemory>
-        requires start { self.now.left ≡ Start }
-        requires broken { self.now.here.mark.broken ≡ true }
-        requires comma { self.now.here.mark.comma ≡ true }
-        ensures { (kind : Kind) → respell kind text.now ≡ text.now
-            → LaysAlso result (λ s. ended (with_token kind text.now s)) (map part_view parts.now)
-            self.now (T.bytes out.old) self.now (T.bytes out.new) }
-    {
-        out.put_item(self.level, text)?;
-        self.items(parts, out)
-    }
-
-    // Where it is all of a segment on a line of its own, also the end of that and the segments after it that are so.
-    // The tokens that most statements are made of are told apart once. The code for a text that is known is short.
-    // Answers how many parts after it were written.
-    #[inline(always)]
-    fn token<T: NewLine>(
-        &mut self,
-        kind: Kind,
-        text: &str,
-        after: &[Part<'_>],
-        out: &mut T,
-    ) -> Result<usize, NoMemory>
-        ensures { LaysAlso result (with_token kind text.now) (map part_view after.now)
             self.old (T.bytes out.old) self.new (T.bytes out.new) }
     {
-        if self.begins_item()
-            && let [Part::End, rest @ ..] = after
-            && stays(kind, text)
-        {
-            return Ok(1 + self.item(text, rest, out)?);
+        let mut rest = parts;
+        loop {
+            match rest {
+                [Part::Token(kind, text), Part::End, after @ ..] if stays(*kind, text) => {
+                    out.put_item(self.level, text)?;
+                    rest = after;
+                }
+                [
+                    Part::Token(Kind::Identifier, name),
+                    Part::Token(Kind::Operator, sign),
+                    after @ ..,
+                ] if is_byte(sign, b'=') => {
+                    self.put_name(name, out)?;
+                    match after {
+                        [Part::Token(kind, text), Part::End, later @ ..]
+                            if is_operand(*kind, text) => {
+                            put_value(text, out)?;
+                            rest = later;
+                        }
+                        _ => {
+                            self.left = Edge::Operator;
+                            return Ok(parts.len() - after.len());
+                        }
+                    }
+                }
+                _ => return Ok(parts.len() - rest.len()),
+            }
         }
+    }
+
+    // The tokens that most statements are made of are told apart once. The code for a text that is known is short.
+    #[inline(always)]
+    fn token<T: NewLine>(&mut self, kind: Kind, text: &str, out: &mut T) -> Result<(), NoMemory>
+        ensures { Lays result (with_token kind text.now) self.old (T.bytes out.old) self.new (T.bytes out.new) }
+    {
         match kind {
             Kind::Integer => self.put_token(Kind::Integer, text, out),
             Kind::Identifier => self.put_token(Kind::Identifier, text, out),
@@ -200,8 +217,7 @@ impl<'b> RowWriter<'b> {
             Kind::Operator if is_byte(text, b'=') => self.put_token(Kind::Operator, "=", out),
             Kind::Operator if is_byte(text, b':') => self.put_token(Kind::Operator, ":", out),
             _ => self.put_rarer(kind, text, out),
-        }?;
-        Ok(0)
+        }
     }
 
     #[inline(always)]
@@ -262,7 +278,26 @@ impl<'b> RowWriter<'b> {
         Ok(())
     }
 
-    // Writes a part, and with a token perhaps some after it. Answers how many after it were written.
+    #[inline(always)]
+    fn put_part<T: NewLine>(&mut self, part: &Part<'_>, out: &mut T) -> Result<(), NoMemory>
+        requires { self.old.level + 1 < 2 ^ 64 }
+        ensures { Lays result (step (part_view part.now)) self.old (T.bytes out.old) self.new (T.bytes out.new) }
+    {
+        match *part {
+            Part::Token(kind, text) => self.token(kind, text, out),
+            Part::Open(kind) => self.open(kind, out),
+            Part::Close(one_comma) => self.close(one_comma, out),
+            Part::End => self.end(out),
+            Part::Above(text) if self.here.mark.broken => put(Gap::Line(self.level), text, out),
+            // In place no comment stands beside a segment, but at the top.
+            Part::Beside(text) if self.here.mark.broken || self.here.within.is_none() => {
+                put(Gap::Apart, text, out)
+            }
+            Part::Above(_) | Part::Beside(_) => Ok(()),
+        }
+    }
+
+    // Writes a part, and where a segment may begin after it perhaps some more. Answers how many after it were written.
     #[inline(always)]
     fn step<T: NewLine>(
         &mut self,
@@ -274,19 +309,12 @@ impl<'b> RowWriter<'b> {
         ensures { LaysAlso result (step (part_view part.now)) (map part_view after.now)
             self.old (T.bytes out.old) self.new (T.bytes out.new) }
     {
-        match *part {
-            Part::Token(kind, text) => return self.token(kind, text, after, out),
-            Part::Open(kind) => self.open(kind, out),
-            Part::Close(one_comma) => self.close(one_comma, out),
-            Part::End => self.end(out),
-            Part::Above(text) if self.here.mark.broken => put(Gap::Line(self.level), text, out),
-            // In place no comment stands beside a segment, but at the top.
-            Part::Beside(text) if self.here.mark.broken || self.here.within.is_none() => {
-                put(Gap::Apart, text, out)
-            }
-            Part::Above(_) | Part::Beside(_) => Ok(()),
-        }?;
-        Ok(0)
+        self.put_part(part, out)?;
+        if self.begins_item() {
+            self.segments(after, out)
+        } else {
+            Ok(0)
+        }
     }
 
     // From the start: so there are no more levels than parts.
