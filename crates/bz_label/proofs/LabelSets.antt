@@ -9,7 +9,7 @@ use Rattle.std.specs.Cmp.Lexicographic.{slice_cmp}
 use Rattle.std.specs.Ordering.{ordering_then, nat_cmp, is_eq, is_ne}
 use Rattle.std.proofs.lemmas.Bool.{cases_Bool, cases_lt}
 use Rattle.std.proofs.lemmas.Cmp.{nat_list_eq_equiv, nat_cmp_total, tied_itself}
-use Rattle.std.proofs.lemmas.List.Folds.{list_any_at, list_any_none}
+use Rattle.std.proofs.lemmas.List.Folds.{list_any-append, list_any_at, list_any_none}
 use Rattle.std.proofs.lemmas.List.Sorted.{searchable_from_sorted}
 use Rattle.std.proofs.lemmas.Map.Text.{is_eq-slice_cmp}
 use Rattle.bz_label.specs.private.LabelSteps.{key_of, label_cmp, label_cmp_total}
@@ -95,3 +95,30 @@ searched x xs (Err i) up within is =
       | inl below ↦ ap is_eq (sides.0 k d zero-le below)
       | inr above ↦ ap is_eq (sides.1 k d above h)
     ]))
+
+-- a label that is among the few: the set has it
+pub already : (k q : List ℕ) (few : List (List ℕ)) (others : Bool) → list_any (bytes_eq k) few ≡ true → (list_any (bytes_eq q) few || others) ≡ (bytes_eq q k || (list_any (bytes_eq q) few || others))
+already k q few others is = elim (cases_Bool (bytes_eq q k)) [
+  | inl same ↦
+      let equal : q ≡ k = search (rules, tests) in
+      let there : list_any (bytes_eq q) few ≡ true = ap (λ (z : List ℕ). list_any (bytes_eq z) few) equal ∙ is in
+      rw (same, there) refl
+  | inr other ↦ rw other refl
+]
+
+pub or_first : (a b c : Bool) → (a || (b || c)) ≡ (b || (a || c))
+or_first true true c = refl
+or_first true false c = refl
+or_first false b c = refl
+
+or_within : (a b c : Bool) → ((a || (b || false)) || c) ≡ (b || (a || c))
+or_within true true c = refl
+or_within true false c = refl
+or_within false true c = refl
+or_within false false c = refl
+
+-- one more among the few
+pub one_pushed : (k q : List ℕ) (few : List (List ℕ)) (others : Bool) → (list_any (bytes_eq q) (few ++ k ∷ []) || others) ≡ (bytes_eq q k || (list_any (bytes_eq q) few || others))
+one_pushed k q few others =
+    ap (λ (b : Bool). b || others) (list_any-append (bytes_eq q) few (k ∷ []))
+    ∙ or_within (list_any (bytes_eq q) few) (bytes_eq q k) others

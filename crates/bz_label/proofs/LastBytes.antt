@@ -1,9 +1,9 @@
 -- A label in full ends as its text does after the last slash.
-use Rattle.std.proofs.Common.{◌≡◌, ℕ, ◌-◌, ◌<◌, List, [], ◌∷◌, ◌++◌, Bool, true, false, if◌then◌else◌, Some, None, length, get_or, take, refl, ap, subst, sym, ◌∙◌, inl, inr, arith, append_assoc, append-nil, ne_eqb, take_all, bytes_eq}
+use Rattle.std.proofs.Common.{◌≡◌, ℕ, ◌-◌, ◌<◌, drop, List, [], ◌∷◌, ◌++◌, Bool, true, false, if◌then◌else◌, Some, None, length, get_or, take, refl, ap, subst, sym, ◌∙◌, inl, inr, arith, append_assoc, append-nil, ne_eqb, take_all, bytes_eq}
 use Rattle.std.specs.Prelude.{codes, nat_eq, not, ◌&&◌}
 use Rattle.std.specs.List.{list_any, onto_first, starts_with}
 use Rattle.std.proofs.lemmas.Bool.{cases_Bool, or_parts}
-use Rattle.std.proofs.lemmas.List.{append_cancel_right, same_from_push, take_more}
+use Rattle.std.proofs.lemmas.List.{append_cancel_right, drop_at, same_from_push, take_more}
 use Rattle.bz_token.proofs.Classes.{same_bytes}
 use Rattle.bz_label.specs.Labels.{Package, is_colon, is_slash, last_part, parts_of, in_package}
 use Rattle.bz_label.specs.Same.{completed, is_local, with_name}
@@ -100,7 +100,7 @@ no_end a b = record { end = []; first = sym (append-nil a); second = sym (append
 no_slash : (x : ℕ) (end : List ℕ) → (x ≡ 47 → ⊥) → list_any is_slash end ≡ false → list_any is_slash (x ∷ end) ≡ false
 no_slash x end slash rest = rw (ne_eqb x 47 slash, rest) refl
 
-joined : (bs left end : List ℕ) (d : ℕ) → 0 < length left → bs ≡ left ++ end → bs ≡ take (length left - 1) left ++ get_or left (length left - 1) d ∷ end
+pub joined : (bs left end : List ℕ) (d : ℕ) → 0 < length left → bs ≡ left ++ end → bs ≡ take (length left - 1) left ++ get_or left (length left - 1) d ∷ end
 joined bs left end d some is =
     is ∙ ap (λ (zs : List ℕ). zs ++ end) (split_last left d some) ∙ append_assoc (take (length left - 1) left) (get_or left (length left - 1) d ∷ []) end
 
@@ -121,3 +121,31 @@ end_differs a b x y d h some_x some_y slash_x slash_y differ home =
     ends_apart home a b h.end (get_or x (length x - 1) d) (get_or y (length y - 1) d)
     (record { front = take (length x - 1) x; is = joined a x h.end d some_x h.first }) (record { front = take (length y - 1) y; is = joined b y h.end d some_y h.second })
     (no_slash (get_or x (length x - 1) d) h.end slash_x h.one_part) (no_slash (get_or y (length y - 1) d) h.end slash_y h.one_part) differ
+
+-- the last part of a path is what stands after its last slash
+pub whole_part : (bs left : List ℕ) → HaveEnd bs bs left left → length left < 1 → bs ≡ last_part (parts_of bs)
+whole_part bs (x ∷ left) h short = absurd (omega arith)
+whole_part bs [] h short = let none : list_any is_slash bs ≡ false = ap (list_any is_slash) h.first ∙ h.one_part in sym (ap last_part (one_part bs none))
+
+longer : (b : ℕ) (parts : List (List ℕ)) → 1 < length parts → (1 < length (onto_first b parts)) × (last_part (onto_first b parts) ≡ last_part parts)
+longer b [] h = absurd (omega arith)
+longer b (p ∷ []) h = absurd (omega arith)
+longer b (p ∷ q ∷ parts) h = (h, refl)
+
+after_slash : (front end : List ℕ) → list_any is_slash end ≡ false → (1 < length (parts_of (front ++ 47 ∷ end))) × (last_part (parts_of (front ++ 47 ∷ end)) ≡ end)
+after_slash [] end none = let some : 0 < length (parts_of end) = some_part is_slash end in (omega (arith, some), last_cons [] (parts_of end) some ∙ ap last_part (one_part end none))
+after_slash (b ∷ front) end none =
+    let more = after_slash front end none in
+    elim (cases_Bool (is_slash b)) [
+      | inl is ↦
+          let some : 0 < length (parts_of (front ++ 47 ∷ end)) = some_part is_slash (front ++ 47 ∷ end) in
+          rw is (omega (arith, some), last_cons [] (parts_of (front ++ 47 ∷ end)) some ∙ more.1)
+      | inr other ↦
+          let onto = longer b (parts_of (front ++ 47 ∷ end)) more.0 in
+          rw other (onto.0, onto.1 ∙ more.1)
+    ]
+
+pub last_after : (bs left : List ℕ) (d : ℕ) → HaveEnd bs bs left left → 0 < length left → get_or left (length left - 1) d ≡ 47 → drop (length left) bs ≡ last_part (parts_of bs)
+last_after bs left d h some slash =
+    let cut : bs ≡ take (length left - 1) left ++ 47 ∷ h.end = joined bs left h.end d some h.first ∙ ap (λ (z : ℕ). take (length left - 1) left ++ z ∷ h.end) slash in
+    ap (drop (length left)) h.first ∙ drop_at left h.end (length left) refl ∙ sym (ap (λ (zs : List ℕ). last_part (parts_of zs)) cut ∙ (after_slash (take (length left - 1) left) h.end h.one_part).1)

@@ -11,7 +11,7 @@ holds home labels text = list_any (bytes_eq (completed home text)) labels
 
 -- a label of the set is the same as the text
 abbrev pub has : LabelSet → List ℕ → Bool
-has set text = holds set.home.now set.labels.keys text
+has set text = holds set.home.now set.few.items text || holds set.home.now set.others.keys text
 
 -- the set has these labels more, and what it had
 abbrev pub Gains : (List ℕ → Bool) → LabelSet → LabelSet → Type 0

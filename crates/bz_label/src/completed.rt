@@ -1,14 +1,14 @@
 //! A label of a package in full: a chain of texts.
 
-ghost use Rattle.std.specs.Prelude.{◌≡◌, IsTrue, MatchOption, IfSome, [], ◌∷◌, ◌++◌, option_map};
-ghost use Rattle.std.specs.List.{flat_map, list_all};
+ghost use Rattle.std.specs.Prelude.{◌≡◌, ℕ, List, IsTrue, MatchOption, IfSome, [], ◌∷◌, ◌++◌, option_map};
+ghost use Rattle.std.specs.List.{flat_map, list_all, list_any};
 ghost use Rattle.std.specs.Ordering.{nat_cmp};
 ghost use Rattle.std.specs.Cmp.Lexicographic.{slice_cmp};
 ghost use Rattle.bz_label.specs.Labels.{last_part, parts_of};
 ghost use Rattle.bz_label.specs.Labels as labels;
 ghost use Rattle.bz_label.specs.Same as same;
 ghost use Rattle.bz_label.specs.private.ByteSteps.{left, is_good};
-ghost use Rattle.bz_label.specs.private.LabelSteps.{rest_after, chain_bytes, is_good_chain};
+ghost use Rattle.bz_label.specs.private.LabelSteps.{rest_after, chain_bytes, front_bytes, is_good_chain};
 
 use crate::bytes::{Bytes, next};
 use crate::package::Package;
@@ -29,7 +29,7 @@ pub(crate) fn completed<'a>(home: &'a Package, text: Bytes<'a>) -> [Bytes<'a>; 4
     if first == b':' {
         return in_package(home, nothing, text);
     }
-    if first == b'@' || after(rest, b':').is_some() {
+    if first == b'@' || has_colon(rest) {
         return whole;
     }
     if first != b'/' {
@@ -40,6 +40,54 @@ pub(crate) fn completed<'a>(home: &'a Package, text: Bytes<'a>) -> [Bytes<'a>; 4
         return whole;
     }
     [text, colon, name, nothing]
+}
+
+/// What stands before a text in the label that it is.
+#[derive(Clone, Copy)]
+pub(crate) struct Front<'a> {
+    pub(crate) slashes: &'a [u8],
+    pub(crate) path: &'a [u8],
+    pub(crate) colon: &'a [u8],
+}
+
+/// What stands before the text in the label that it is, where nothing stands after it. None: it is a path, or empty.
+pub(crate) fn front_of<'a>(home: &'a Package, text: &[u8]) -> Option<Front<'a>>
+    ensures { IfSome result (λ front. front_bytes front text.now ≡ same.completed home.now text.now) }
+{
+    let [first, rest @ ..] = text else {
+        return None;
+    };
+    if *first == b':' {
+        return Some(package_front(home, b""));
+    }
+    if *first == b'@' || rest.contains(&b':') {
+        return Some(Front {
+            slashes: b"",
+            path: b"",
+            colon: b"",
+        });
+    }
+    if *first == b'/' {
+        return None;
+    }
+    Some(package_front(home, b":"))
+}
+
+fn package_front<'a>(home: &'a Package, colon: &'a [u8]) -> Front<'a>
+    ensures { (text : List ℕ) → front_bytes result text ≡ labels.in_package home.now (colon.now ++ text) }
+{
+    match home.path() {
+        Some(path) => Front {
+            slashes: b"//",
+            path: path.as_bytes(),
+            colon,
+        },
+        None => Front {
+            slashes: b"",
+            path: b"",
+            colon,
+        },
+    }
 }
 
 fn in_package<'a>(home: &'a Package, colon: Bytes<'a>, name: Bytes<'a>) -> [Bytes<'a>; 4]
@@ -59,14 +107,42 @@ fn in_package<'a>(home: &'a Package, colon: Bytes<'a>, name: Bytes<'a>) -> [Byte
     }
 }
 
+// A colon stands in it.
+fn has_colon(text: Bytes<'_>) -> bool
+    requires { IsTrue (is_good text) }
+    ensures { result ≡ list_any labels.is_colon (left text.entry) }
+{
+    match text {
+        Bytes::Plain(bytes) => bytes.contains(&b':'),
+        Bytes::Inner(_) => after(text, b':').is_some(),
+    }
+}
+
 // What stands after the last slash.
 fn last_part<'a>(mut path: Bytes<'a>) -> Bytes<'a>
     requires { IsTrue (is_good path) }
     ensures last { left result ≡ labels.last_part (labels.parts_of (left path.entry)) }
     ensures good { IsTrue (is_good result) }
 {
+    if let Bytes::Plain(bytes) = path {
+        return Bytes::Plain(last_plain_part(bytes));
+    }
     while let Some(rest) = after(path, b'/') {
         path = rest;
+    }
+    path
+}
+
+// It is looked for from the end.
+fn last_plain_part(path: &[u8]) -> &[u8]
+    ensures { result.now ≡ labels.last_part (labels.parts_of path.now) }
+{
+    let mut rest = path;
+    while let [front @ .., byte] = rest {
+        if *byte == b'/' {
+            return &path[rest.len()..];
+        }
+        rest = front;
     }
     path
 }

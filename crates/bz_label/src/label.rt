@@ -11,7 +11,7 @@ ghost use Rattle.bz_label.specs.private.LabelSteps.{stirred, key_of, label_cmp, 
 ghost use Rattle.bz_label.specs.Same as spec;
 
 use crate::bytes::{Bytes, next};
-use crate::completed::{completed, order};
+use crate::completed::{completed, front_of, order};
 use crate::package::Package;
 use std::cmp::Ordering;
 use std::marker::Model;
@@ -42,10 +42,7 @@ impl<'a> Label<'a> {
         requires { IsTrue (is_good text) }
         ensures { result ≡ spec.completed home.now (left text.entry) }
     {
-        let mut key = 0;
-        for text in &completed(home, text) {
-            key = stirred(key, *text);
-        }
+        let key = key_in_full(home, text);
         Label { key, home, text }
     }
 
@@ -58,21 +55,45 @@ impl<'a> Label<'a> {
     }
 }
 
+// The key of the label that a text is. That of most needs no chain of texts.
+fn key_in_full(home: &Package, text: Bytes<'_>) -> u64
+    requires { IsTrue (is_good text) }
+    ensures { result ≡ key_of (spec.completed home.now (left text.entry)) }
+{
+    if let Bytes::Plain(bytes) = text {
+        if let Some(front) = front_of(home, bytes) {
+            let key = stirred_by(stirred_by(0, front.slashes), front.path);
+            return stirred_by(stirred_by(key, front.colon), bytes);
+        }
+    }
+    let mut key = 0;
+    for text in &completed(home, text) {
+        key = stirred(key, *text);
+    }
+    key
+}
+
 // A key with the bytes of a text more.
 fn stirred(mut key: u64, mut text: Bytes<'_>) -> u64
     requires { IsTrue (is_good text) }
     ensures { result ≡ fold stirred key (left text.entry) }
 {
-    if let Bytes::Plain(slice) = text {
-        return slice
-            .iter()
-            .fold(key, |key, b| key.rotate_left(7) ^ u64::from(*b));
+    if let Bytes::Plain(bytes) = text {
+        return stirred_by(key, bytes);
     }
     while let Some((b, rest)) = next(text) {
         key = key.rotate_left(7) ^ u64::from(b);
         text = rest;
     }
     key
+}
+
+fn stirred_by(key: u64, bytes: &[u8]) -> u64
+    ensures { result ≡ fold stirred key bytes.now }
+{
+    bytes
+        .iter()
+        .fold(key, |key, b| key.rotate_left(7) ^ u64::from(*b))
 }
 
 impl<'a> PartialEq for Label<'a> {

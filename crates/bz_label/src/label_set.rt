@@ -1,6 +1,7 @@
-//! Labels of one package, to which more are added. They are kept in order, so no choice of labels makes it slow.
+//! Labels of one package, to which more are added. All but a few are kept in order, so no choice of labels makes it slow.
 
 ghost use Rattle.std.specs.Prelude.{◌≡◌, ℕ, List, false, not, IsTrue, IfOk, OnOk, OnErr};
+ghost use Rattle.std.specs.List.{list_any};
 ghost use Rattle.std.specs.Str.{bytes_eq};
 ghost use Rattle.bz_label.specs.private.ByteSteps.{left, is_good};
 ghost use Rattle.bz_label.specs.Same.{completed};
@@ -9,15 +10,19 @@ ghost use Rattle.bz_label.specs.LabelSetViews as spec;
 use crate::bytes::Bytes;
 use crate::label::Label;
 use crate::package::Package;
-use bz_memory::{NoMemory, insert};
+use bz_memory::{NoMemory, insert, push};
 use std::alloc::Global;
 use std::collections::BTreeSet;
 
-/// A set of labels of one package.
+// At most so many labels are compared one by one: in a tree they would cost more.
+const FEW: usize = 8;
+
+/// A set of labels of one package: the first few in a list, all others in a tree.
 #[derive(Drop)]
 pub struct LabelSet<'a> {
     home: &'a Package,
-    labels: BTreeSet<Label<'a>>,
+    few: Vec<Label<'a>>,
+    others: BTreeSet<Label<'a>>,
 }
 
 impl<'a> LabelSet<'a> {
@@ -26,8 +31,11 @@ impl<'a> LabelSet<'a> {
         ensures home { result.home.now ≡ home.now }
         ensures empty { (text : List ℕ) → spec.has result text ≡ false }
     {
-        let labels = BTreeSet::new(alloc);
-        LabelSet { home, labels }
+        LabelSet {
+            home,
+            few: Vec::new(alloc),
+            others: BTreeSet::new(alloc),
+        }
     }
 
     /// Adds the label that a text is, and says whether it is new. An `Err` leaves the set as it was.
@@ -41,6 +49,26 @@ impl<'a> LabelSet<'a> {
         ensures err { OnErr result ((other : List ℕ) → spec.has self.new other ≡ spec.has self.old other) }
         ensures home { self.new.home.now ≡ self.old.home.now }
     {
-        insert(&mut self.labels, Label::new(self.home, text))
+        let label = Label::new(self.home, text);
+        if is_one_of(&label, self.few.as_slice()) {
+            return Ok(false);
+        }
+        if self.others.is_empty() && self.few.len() < FEW {
+            push(&mut self.few, label)?;
+            return Ok(true);
+        }
+        insert(&mut self.others, label)
     }
+}
+
+// They are compared one by one, most by their keys alone.
+fn is_one_of(label: &Label<'_>, labels: &[Label<'_>]) -> bool
+    ensures { result ≡ list_any (bytes_eq label.now) labels.now }
+{
+    for other in labels {
+        if label == other {
+            return true;
+        }
+    }
+    false
 }

@@ -8,10 +8,15 @@ use Rattle.std.specs.Cmp.{IsTotalOrder, nat_cmp_total, on_total, then_total}
 use Rattle.std.specs.Cmp.Lexicographic.{slice_cmp, nat_list_cmp_total}
 use Rattle.bz_label.specs.private.ByteSteps.{left, is_good}
 use Rattle.bz_label.specs.declared.completed.Chain.{Chain}
+use Rattle.bz_label.specs.declared.completed.Front.{Front}
 
 -- what is left of a chain of texts
 abbrev pub chain_bytes : Chain → List ℕ
 chain_bytes chain = left chain.first ++ flat_map left chain.rest.now
+
+-- a text with what stands before it
+abbrev pub front_bytes : Front → List ℕ → List ℕ
+front_bytes front text = front.slashes.now ++ (front.path.now ++ (front.colon.now ++ text))
 
 abbrev pub is_good_chain : Chain → Bool
 is_good_chain chain = is_good chain.first && list_all is_good chain.rest.now

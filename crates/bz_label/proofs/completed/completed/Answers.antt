@@ -5,9 +5,9 @@ use Rattle.std.specs.Prelude.{is_some}
 use Rattle.bz_label.specs.Labels.{is_colon, last_part, parts_of, in_package}
 use Rattle.bz_label.specs.Same.{completed}
 use Rattle.bz_label.specs.private.ByteSteps.{left}
-use Rattle.bz_label.proofs.LastParts.{has_colon, alone, at_sign, coloned, path}
+use Rattle.bz_label.proofs.LastParts.{alone, at_sign, coloned, path}
 use Rattle.bz_label.proofs.completed.completed.Goals as goal
-use Rattle.bz_label.proofs.completed.completed.Goals.{in-Some-eq47-default, in_default-matches, in_default-matches-2, then-first-eq64-via-then-first-eq64, then-first-eq64-via-else-first-eq64+then-is_some}
+use Rattle.bz_label.proofs.completed.completed.Goals.{in-Some-eq47-default, in_default-matches, in_default-matches-2, then-first-eq64-via-then-first-eq64, then-first-eq64-via-else-first-eq64+then-has_colon}
 
 pub returns-then-first-eq64-clause-bytes : goal.returns-then-first-eq64-clause-bytes
 returns-then-first-eq64-clause-bytes c =
@@ -18,14 +18,14 @@ returns-then-first-eq64-clause-bytes c =
     let is : text ≡ first ∷ rest = c.in-Some.ensures.next in
     append-nil text ∙ is ∙ elim c.then-first-eq64.branch [
       | then-first-eq64-via-then-first-eq64 w ↦ let at : first ≡ 64 = w.if-first-eq64.true in rw at (sym (at_sign home rest))
-      | then-first-eq64-via-else-first-eq64+then-is_some w ↦ sym (coloned home first rest c.if-first-eq58.false (has_colon _ rest w.after.ensures.rest ∙ sym w.is_some.ensures ∙ w.if-is_some.true))
+      | then-first-eq64-via-else-first-eq64+then-has_colon w ↦ sym (coloned home first rest c.if-first-eq58.false (sym w.has_colon.ensures ∙ w.if-has_colon.true))
     ] ∙ ap (completed home) (sym is)
 
 pub returns-then-first-ne47-clause-bytes : goal.returns-then-first-ne47-clause-bytes
 returns-then-first-ne47-clause-bytes c =
     let home = c.args.home.now in
     let rest = left c.in-Some.rest in
-    let none : list_any is_colon rest ≡ false = has_colon _ rest c.after.ensures.rest ∙ sym c.is_some.ensures ∙ c.if-is_some.false in
+    let none : list_any is_colon rest ≡ false = sym c.has_colon.ensures ∙ c.if-has_colon.false in
     c.in_package-then-first-ne47.ensures.bytes
     ∙ ap (λ (text : List ℕ). in_package home (58 ∷ text)) c.in-Some.ensures.next
     ∙ sym (alone home c.in-Some.first rest c.if-first-eq58.false c.if-first-eq64.false c.if-first-ne47.true none)
@@ -37,7 +37,7 @@ returns-clause-bytes c =
     let text = left c.args.text in
     let rest = left c.in-Some.rest in
     let name = left c.last_part-name.result in
-    let none : list_any is_colon rest ≡ false = has_colon _ rest c.after.ensures.rest ∙ sym c.is_some.ensures ∙ c.if-is_some.false in
+    let none : list_any is_colon rest ≡ false = sym c.has_colon.ensures ∙ c.if-has_colon.false in
     let slash : c.in-Some.first ≡ 47 = omega (arith, c.if-first-ne47.false) in
     let is : text ≡ 47 ∷ rest = c.in-Some.ensures.next ∙ ap (λ (b : ℕ). b ∷ rest) slash in
     let two : (bs : List ℕ) × (rest ≡ 47 ∷ bs) = elim c.match-matches.branch [

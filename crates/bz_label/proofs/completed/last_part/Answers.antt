@@ -17,5 +17,5 @@ loop-rest-preserved c = record {
 
 pub returns-clause-last : goal.returns-clause-last
 returns-clause-last c =
-    let none : None ≡ rest_after 47 (left c.loop-rest.path) = ap (option_map left) (sym c.in_default.is) ∙ c.after.ensures.rest in
+    let none : None ≡ rest_after 47 (left c.loop-rest.path) = ap (option_map left) (sym c.in_default-after.is) ∙ c.after.ensures.rest in
     sym (ap last_part (one_part (left c.loop-rest.path) none)) ∙ c.loop-rest.invariant.same
