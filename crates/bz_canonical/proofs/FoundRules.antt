@@ -1,12 +1,11 @@
 -- The arguments of a found rule that follow its name.
 use Rattle.bz_tree.specs.Rows.{segs_parts}
 use Rattle.bz_tree.specs.Tree.{Segment, segs_of}
-use Rattle.std.proofs.Common.{◌==◌, Bool, true, false, refl, ◌≤◌, ◌≡◌, ◌<◌, ◌-◌, ℕ, List, [], ◌∷◌, ◌++◌, length, take, drop, get_or, subst, ap, sym, ◌∙◌, arith, append_assoc}
+use Rattle.std.proofs.Common.{Bool, true, false, refl, ◌≤◌, ◌≡◌, ◌<◌, ◌-◌, ℕ, List, [], ◌∷◌, ◌++◌, length, take, drop, get_or, subst, ap, sym, ◌∙◌, arith, append_assoc}
 use Rattle.std.specs.List.{concat}
-use Rattle.std.proofs.lemmas.Bool.Decides.{Decides-eqb}
 use Rattle.std.proofs.lemmas.List.{length-append, length-map, take_rest}
 use Rattle.bz_canonical.specs.Canonical.{AreReadAlone}
-use Rattle.bz_canonical.specs.SealedRules.{are_asked, are_shown, count_sealed, shown}
+use Rattle.bz_canonical.specs.SealedRules.{are_asked, are_shown, count_sealed, is_exposed, shown}
 use Rattle.bz_canonical.specs.Spans.{AreSpans, IsSpannedIn, NamedRule, front_text, is_asked, kept, name_argument}
 use Rattle.bz_canonical.specs.declared.spans.ArgumentSpan.{ArgumentSpan}
 use Rattle.bz_canonical.proofs.CutTexts.{rest_at}
@@ -66,15 +65,8 @@ none_asked spans args is = sym (ap (λ xs. segs_parts (segs_of xs)) (none_kept (
 
 -- which arguments stay
 
-one_only : (n : ℕ) → (n ≡ 1 → ⊥) → (n == 1) ≡ false
-one_only n other = by (n == 1) refl
-  where
-    by : (b : Bool) → (n == 1) ≡ b → b ≡ false
-    by true is = absurd (other ((Decides-eqb n 1).0 is))
-    by false is = refl
+pub all_shown : (alone : Bool) (spans : List ArgumentSpan) → is_exposed alone spans ≡ true → shown true spans ≡ are_shown alone spans
+all_shown alone spans is = ap (λ b. shown b spans) (sym is)
 
-pub all_shown : (spans : List ArgumentSpan) → count_sealed (are_asked spans) ≡ 1 → shown true spans ≡ are_shown spans
-all_shown spans one = ap (λ n. shown (n == 1) spans) (sym one)
-
-pub asked_shown : (spans : List ArgumentSpan) → (count_sealed (are_asked spans) ≡ 1 → ⊥) → shown false spans ≡ are_shown spans
-asked_shown spans other = ap (λ b. shown b spans) (sym (one_only (count_sealed (are_asked spans)) other))
+pub asked_shown : (alone : Bool) (spans : List ArgumentSpan) → is_exposed alone spans ≡ false → shown false spans ≡ are_shown alone spans
+asked_shown alone spans is = ap (λ b. shown b spans) (sym is)

@@ -20,7 +20,7 @@ use Rattle.bz_attribute.proofs.Views.{segments_of}
 use Rattle.bz_rule.specs.Sealed.{AreSealed, IsSealed, StandsFor, is_among}
 use Rattle.bz_rule.specs.Sealed.AreSealed.{all_done, same, sealed as sealed_more}
 use Rattle.bz_canonical.specs.Canonical.{argument_lines}
-use Rattle.bz_canonical.specs.SealedRules.{are_alike, are_asked, as_comment, count_sealed, ends_run, inner_text, sealed, sealed_after, sealed_args, sealed_from, sealed_rule, are_shown, shown}
+use Rattle.bz_canonical.specs.SealedRules.{are_alike, are_asked, as_comment, count_sealed, ends_run, inner_text, is_exposed, sealed, sealed_after, sealed_args, sealed_from, sealed_rule, are_shown, shown}
 use Rattle.bz_canonical.specs.Spans.{AreSpans, IsSpan, IsSpanned, NamedRule, is_asked, front_text, name_argument, statement_of}
 use Rattle.bz_canonical.specs.declared.spans.ArgumentSpan.{ArgumentSpan}
 use Rattle.bz_canonical.proofs.ArgumentLines.{lines_append}
@@ -162,8 +162,8 @@ trues_none : (spans : List ArgumentSpan) → count_sealed (shown true spans) ≡
 trues_none [] = refl
 trues_none (s ∷ ss) = trues_none ss
 
--- never is one alone sealed
-pub never_one : (spans : List ArgumentSpan) → count_sealed (are_shown spans) ≡ 1 → ⊥
+-- never is one alone sealed that might be left alone
+pub never_one : (spans : List ArgumentSpan) → count_sealed (are_shown false spans) ≡ 1 → ⊥
 never_one spans = by (count_sealed (are_asked spans) == 1) refl
   where
     by : (all : Bool) → (count_sealed (are_asked spans) == 1) ≡ all → count_sealed (shown all spans) ≡ 1 → ⊥
@@ -174,9 +174,9 @@ all_same : (asks : Segment → Bool) (args : List Segment) → AreSealed Alike a
 all_same asks [] = all_done
 all_same asks (a ∷ args) = same a (all_same asks args)
 
-pub rule_shown : (asks : Segment → Bool) → NeverAsks asks → (names : List (List ℕ)) (r : NamedRule) (stands : List (List ℕ)) (written : List ℕ) (spans : List ArgumentSpan) (d : ArgumentSpan) → 0 < length spans → IsSpanned names r stands written spans → Unasked asks r.args (drop 1 spans)
-    → IsSealed (λ run t. are_alike run t ≡ true) asks (count_sealed (are_shown (drop 1 spans))) (statement_of r) (statement_of (sealed_rule (are_shown (drop 1 spans)) r))
-rule_shown asks never names r stands written spans d some is free = by (count_sealed (are_asked (drop 1 spans)) == 1)
+pub rule_shown : (asks : Segment → Bool) → NeverAsks asks → (names : List (List ℕ)) (r : NamedRule) (stands : List (List ℕ)) (written : List ℕ) (spans : List ArgumentSpan) (alone : Bool) (d : ArgumentSpan) → 0 < length spans → IsSpanned names r stands written spans → Unasked asks r.args (drop 1 spans)
+    → IsSealed (λ run t. are_alike run t ≡ true) asks (count_sealed (are_shown alone (drop 1 spans))) (statement_of r) (statement_of (sealed_rule (are_shown alone (drop 1 spans)) r))
+rule_shown asks never names r stands written spans alone d some is free = by (is_exposed alone (drop 1 spans))
   where
     by : (all : Bool) → IsSealed (λ run t. are_alike run t ≡ true) asks (count_sealed (shown all (drop 1 spans))) (statement_of r) (statement_of (sealed_rule (shown all (drop 1 spans)) r))
     by false = rule_sealed asks never names r stands written spans d some is free

@@ -2,7 +2,7 @@
 use Rattle.std.proofs.Common.{◌≡◌, ◌<◌, ℕ, List, [], ◌∷◌, Bool, true, false, drop, length, map, refl, ap, arith}
 use Rattle.std.specs.Prelude.{None, ◌||◌}
 use Rattle.bz_tree.specs.Tree.{Segment}
-use Rattle.bz_label.specs.Endings.{ending}
+use Rattle.bz_label.specs.Endings.{ending, literal_end}
 use Rattle.bz_label.specs.Labels.{Package}
 use Rattle.bz_label.specs.declared.arguments.Chosen.TheVariants.{Values}
 use Rattle.bz_attribute.specs.Reports.{chooses}
@@ -19,13 +19,13 @@ some_spans names n m a args [] spans are = absurd are
 some_spans names n m a args (l ∷ ls) [] are = absurd are
 some_spans names n m a args (l ∷ ls) (span ∷ spans) are = omega arith
 
-pub marked_spanned : (depth : ℕ) (names : List (List ℕ)) (r : NamedRule) (stands : List (List ℕ)) (chunk written : List ℕ) (spans : List ArgumentSpan) (endings : List (List ℕ)) → IsSpannedIn depth names r stands chunk written spans
-    → IsSpannedIn depth names r stands chunk written (marked endings chunk spans)
-marked_spanned depth names r stands chunk written spans endings is =
+pub marked_spanned : (depth : ℕ) (names : List (List ℕ)) (r : NamedRule) (stands : List (List ℕ)) (chunk written : List ℕ) (spans : List ArgumentSpan) (endings closings : List (List ℕ)) → IsSpannedIn depth names r stands chunk written spans
+    → IsSpannedIn depth names r stands chunk written (marked endings closings chunk spans)
+marked_spanned depth names r stands chunk written spans endings closings is =
     let at = is.spanned in
     let F : List ℕ = front_text r.notes r.kind in
     record {
-      spanned = record { notes_are = at.notes_are; kind_is = at.kind_is; end_are = at.end_are; written_is = at.written_is; are = are_marked names (length F) (length F) (name_argument r.name ∷ r.args) stands spans endings chunk at.are };
+      spanned = record { notes_are = at.notes_are; kind_is = at.kind_is; end_are = at.end_are; written_is = at.written_is; are = are_marked names (length F) (length F) (name_argument r.name ∷ r.args) stands spans endings closings chunk at.are };
       back = is.back;
       chunk_is = is.chunk_is;
       reads = is.reads;
@@ -40,12 +40,12 @@ after_first asks a [] [] free = tt
 after_first asks a (b ∷ args) [] free = tt
 after_first asks a args (s ∷ spans) free = free.1
 
-pub rule_sought : (names values : List (List ℕ)) (home : Package) (depth : ℕ) (r : NamedRule) (stands : List (List ℕ)) (chunk written : List ℕ) (spans : List ArgumentSpan) → IsSpannedIn depth names r stands chunk written spans
-    → IsSealed (λ run t. are_alike run t ≡ true) (is_asked_for names values home) (count_sealed (are_shown (drop 1 (marked (map ending values) chunk spans)))) (statement_of r) (statement_of (sealed_rule (are_shown (drop 1 (marked (map ending values) chunk spans))) r))
-rule_sought names values home depth r stands chunk written spans is =
+pub rule_sought : (names values : List (List ℕ)) (home : Package) (depth : ℕ) (r : NamedRule) (stands : List (List ℕ)) (chunk written : List ℕ) (spans : List ArgumentSpan) (alone : Bool) → IsSpannedIn depth names r stands chunk written spans
+    → IsSealed (λ run t. are_alike run t ≡ true) (is_asked_for names values home) (count_sealed (are_shown alone (drop 1 (marked (map ending values) (map literal_end values) chunk spans)))) (statement_of r) (statement_of (sealed_rule (are_shown alone (drop 1 (marked (map ending values) (map literal_end values) chunk spans))) r))
+rule_sought names values home depth r stands chunk written spans alone is =
     let F : List ℕ = front_text r.notes r.kind in
-    let all : List ArgumentSpan = marked (map ending values) chunk spans in
-    let found = marked_spanned depth names r stands chunk written spans (map ending values) is in
+    let all : List ArgumentSpan = marked (map ending values) (map literal_end values) chunk spans in
+    let found = marked_spanned depth names r stands chunk written spans (map ending values) (map literal_end values) is in
     let free : Unasked (is_asked_for names values home) (name_argument r.name ∷ r.args) all = marked_unasked names values home (length F) (length F) (name_argument r.name ∷ r.args) stands spans chunk F is.back is.spanned.are is.chunk_is refl in
-    rule_shown (is_asked_for names values home) (never_asked names values home) names r stands written all (record { from = 0; to = 0; start = 0; comma = 0; end = 0; named = None; sought = false })
+    rule_shown (is_asked_for names values home) (never_asked names values home) names r stands written all alone (record { from = 0; to = 0; start = 0; comma = 0; end = 0; named = None; sought = false })
     (some_spans names (length F) (length F) (name_argument r.name) r.args stands all found.spanned.are) found.spanned (after_first (is_asked_for names values home) (name_argument r.name) r.args all free)

@@ -1,5 +1,5 @@
 -- The parts of a rule of which some arguments are sealed.
-use Rattle.std.specs.Prelude.{bytes_eq, ◌==◌, zero, ◌-◌, ℕ, suc, List, [], ◌∷◌, ◌++◌, codes, flat_map, length, map, nat_le, take, drop, Bool, true, false, ◌&&◌, ◌||◌, if◌then◌else◌, Option}
+use Rattle.std.specs.Prelude.{bytes_eq, ◌==◌, zero, ◌-◌, ℕ, suc, List, [], ◌∷◌, ◌++◌, codes, flat_map, length, map, nat_le, take, drop, Bool, true, false, not, ◌&&◌, ◌||◌, if◌then◌else◌, Option}
 use Rattle.bz_token.specs.declared.token.Kind.TheVariants.{Identifier}
 use Rattle.bz_tree.specs.declared.tree.GroupKind.TheVariants.{RuleCall}
 use Rattle.bz_tree.specs.Rows.{RowPart, a_token, above, beside_part, closing, opening, segs_parts}
@@ -95,9 +95,13 @@ abbrev pub count_sealed : List Bool → ℕ
 count_sealed [] = zero
 count_sealed (b ∷ asked) = if b then count_sealed asked else suc (count_sealed asked)
 
--- The arguments of a rule that stay: those that are asked for, and all where one alone is not, since that might be laid out in place.
-abbrev pub are_shown : List ArgumentSpan → List Bool
-are_shown spans = shown (count_sealed (are_asked spans) == 1) spans
+-- One argument alone is not asked for, and it might be left alone in its call, in place.
+abbrev pub is_exposed : Bool → List ArgumentSpan → Bool
+is_exposed alone spans = not alone && count_sealed (are_asked spans) == 1
+
+-- the arguments of a rule that stay: those that are asked for, and all where one is exposed
+abbrev pub are_shown : Bool → List ArgumentSpan → List Bool
+are_shown alone spans = shown (is_exposed alone spans) spans
 
 -- the parts of the small rule
 abbrev pub small_parts : List Segment → List RowPart

@@ -5,7 +5,7 @@ ghost use Rattle.std.specs.List.{concat};
 ghost use Rattle.bz_tree.specs.Rows.{IsRowOf, part_view};
 ghost use Rattle.bz_tree.specs.Tree.{Segment};
 ghost use Rattle.bz_canonical.specs.Canonical.{AreReadAlone};
-ghost use Rattle.bz_canonical.specs.SealedRules.{are_asked, are_shown, sealed_rule, shown, small_parts};
+ghost use Rattle.bz_canonical.specs.SealedRules.{are_asked, are_shown, count_sealed, is_exposed, sealed_rule, shown, small_parts};
 ghost use Rattle.bz_canonical.specs.Sought.{marked};
 ghost use Rattle.bz_canonical.specs.Spans.{AreSpans, IsSpannedIn, NamedRule, kept, statement_of};
 
@@ -13,10 +13,9 @@ use crate::asked::{asked_parts, put_asked_rule, read_asked_rule, sealed_count};
 use crate::comments::after_comments_above;
 use crate::listed::put_lists;
 use crate::sealed::{SpannedRule, begins_with, between, sealed_row};
-use crate::sought::mark_sought;
+use crate::sought::{Sought, mark_sought};
 use crate::spans::ArgumentSpan;
 use bumpalo::Bump;
-use bz_label::Text;
 use bz_memory::{NoMemory, with_capacity};
 use bz_tree::Row;
 use std::alloc::Global;
@@ -89,18 +88,19 @@ fn read_asked<'a>(
 }
 
 /// The row of a rule, of which the arguments after the name are sealed that neither have a name that is asked for nor may
-/// have a value with one of these ends, if they are not one alone. None: it is to be read whole.
+/// have a value that is sought, if not one alone is, which might be left alone in its call. None: it is to be read whole.
 pub fn seal<'a>(
     room: Room<'a>,
     found: FoundRule<'a>,
-    endings: &[Text],
+    sought: Sought<'_>,
     small: &'a mut String,
 ) -> Result<Option<Row<'a>>, NoMemory>
     ensures { IfOk result (λ known. IfSome known (λ row. (names : List (List ℕ)) (r : NamedRule)
         (stands : List (List ℕ)) → IsSpannedIn room.entry.max_depth names r stands found.entry.chunk.now
         found.entry.rule.written.now found.entry.rule.spans.now → r.first_line ≡ found.entry.start
-        → r.last_line ≡ found.entry.end → IsRowOf (statement_of (sealed_rule (are_shown (drop 1
-        (marked endings.now found.entry.chunk.now found.entry.rule.spans.now))) r)) row)) }
+        → r.last_line ≡ found.entry.end → IsRowOf (statement_of (sealed_rule (are_shown sought.entry.alone
+        (drop 1 (marked sought.entry.endings.now sought.entry.closings.now found.entry.chunk.now
+        found.entry.rule.spans.now))) r)) row)) }
 {
     let FoundRule {
         chunk,
@@ -108,40 +108,46 @@ pub fn seal<'a>(
         start,
         end,
     } = found;
-    let Some(spans) = mark_sought(room.bump, endings, chunk, rule.spans)? else {
+    let Some(spans) = mark_sought(room.bump, sought, chunk, rule.spans)? else {
         return Ok(None);
     };
     let rule = SpannedRule { spans, ..rule };
-    seal_unasked(
-        room,
-        FoundRule {
-            chunk,
-            rule,
-            start,
-            end,
-        },
-        small,
-    )
+    let found = FoundRule {
+        chunk,
+        rule,
+        start,
+        end,
+    };
+    seal_unasked(room, found, sought.alone, small)
 }
 
-/// The row of a rule, of which the arguments after the name are sealed that are not asked for, if they are not one alone.
-/// None: it is to be read whole.
+/// One of the arguments that have these spans is not asked for, and it might be left alone in its call.
+fn is_exposed(alone: bool, spans: &[ArgumentSpan], sealed: usize) -> bool
+    requires { sealed ≡ count_sealed (are_asked spans.now) }
+    ensures { result ≡ is_exposed alone spans.now }
+{
+    !alone && sealed == 1
+}
+
+/// The row of a rule, of which the arguments after the name are sealed that are not asked for, if not one alone is, which
+/// might be left alone in its call. None: it is to be read whole.
 fn seal_unasked<'a>(
     room: Room<'a>,
     found: FoundRule<'a>,
+    alone: bool,
     small: &'a mut String,
 ) -> Result<Option<Row<'a>>, NoMemory>
     ensures { IfOk result (λ known. IfSome known (λ row. (names : List (List ℕ)) (r : NamedRule)
         (stands : List (List ℕ)) → IsSpannedIn room.entry.max_depth names r stands found.entry.chunk.now
         found.entry.rule.written.now found.entry.rule.spans.now → r.first_line ≡ found.entry.start
-        → r.last_line ≡ found.entry.end
-        → IsRowOf (statement_of (sealed_rule (are_shown (drop 1 found.entry.rule.spans.now)) r)) row)) }
+        → r.last_line ≡ found.entry.end → IsRowOf
+        (statement_of (sealed_rule (are_shown alone (drop 1 found.entry.rule.spans.now)) r)) row)) }
 {
     let [_, spans @ ..] = found.rule.spans else {
         return Ok(None);
     };
     let sealed = sealed_count(spans);
-    if sealed == 1 {
+    if is_exposed(alone, spans, sealed) {
         return row_of_lists(room, found, true);
     }
     // Often none is asked for but the name.
@@ -150,6 +156,10 @@ fn seal_unasked<'a>(
     }
     if let Some(row) = row_of_lists(room, found, false)? {
         return Ok(Some(row));
+    }
+    // Most of the rule would be read.
+    if sealed == 1 {
+        return Ok(None);
     }
     let Some(read) = read_asked(room, found.chunk, spans, small)? else {
         return Ok(None);

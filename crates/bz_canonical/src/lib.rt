@@ -57,6 +57,7 @@ pub use removed::put_removed;
 pub use replaced::put_replaced;
 pub use sealed::SpannedRule;
 pub use set_list::put_set_list;
+pub use sought::Sought;
 pub use spans::ArgumentSpan;
 
 /// None: it is not known what would be written.

@@ -1,9 +1,9 @@
-//! Which arguments may have a value that is sought in all: those in whose lines its end stands. The value of a label may stand
-//! there in other words, but its end after the last colon or slash is the same.
+//! Which arguments may have a value that is sought in all attributes. A label may be spelled in several ways, but what is after
+//! its last colon or slash stands in each of them, before the quote that closes the literal.
 
 ghost use Rattle.std.specs.Prelude.{◌≡◌, IfOk, IfSome};
 ghost use Rattle.std.specs.List.{list_any};
-ghost use Rattle.bz_label.specs.Endings.{is_in, is_odd};
+ghost use Rattle.bz_label.specs.Endings.{is_in, is_odd, is_unsure};
 ghost use Rattle.bz_canonical.specs.Sought as spec;
 
 use crate::sealed::between;
@@ -12,8 +12,8 @@ use bumpalo::Bump;
 use bumpalo::collections::into_bump_slice;
 use bz_label::Text;
 use bz_memory::{NoMemory, push, with_room_for};
-use memchr::memchr2;
 use memchr::memmem::Finder;
+use memchr::{memchr2, memchr3};
 
 /// Searches for these parts.
 fn finders_of<'e, 'a>(
@@ -43,6 +43,13 @@ fn has_odd(text: &str) -> bool
     memchr2(b'\\', b'\r', text.as_bytes()).is_some()
 }
 
+/// Whether a byte of the text tells nothing of the literal that it is in.
+fn has_unsure(text: &str) -> bool
+    ensures { result ≡ list_any is_unsure text.now }
+{
+    memchr3(b'\\', b'\r', b'\'', text.as_bytes()).is_some()
+}
+
 /// Whether one of the parts stands in the text.
 fn holds_one(parts: &[Finder<'_>], text: &str) -> bool
     ensures { result ≡ list_any (λ part. is_in part text.now) parts.now }
@@ -57,39 +64,94 @@ fn may_hold(endings: &[Finder<'_>], text: &str) -> bool
     !endings.is_empty() && (has_odd(text) || holds_one(endings, text))
 }
 
-/// The span, marked if a value with one of the ends may stand in its lines. None: it is of no part of the chunk.
-fn mark(endings: &[Finder<'_>], chunk: &str, span: ArgumentSpan) -> Option<ArgumentSpan>
-    ensures { IfSome result (λ marked. marked ≡ spec.mark endings.now chunk.now span) }
+/// What is searched for in a chunk, and in the lines of its arguments: ends, or, where no byte is unsure, ends with quotes.
+#[derive(Clone, Copy)]
+struct Parts<'p> {
+    unsure: bool,
+    finders: &'p [Finder<'p>],
+}
+
+/// One of them may end a value in the text.
+fn may_have(parts: Parts<'_>, text: &str) -> bool
+    ensures { result ≡ spec.may_have parts.entry.unsure parts.entry.finders.now text.now }
+{
+    if parts.unsure {
+        may_hold(parts.finders, text)
+    } else {
+        holds_one(parts.finders, text)
+    }
+}
+
+/// The span, marked if one of them may end a value in its lines. None: it is of no part of the chunk.
+fn mark(parts: Parts<'_>, chunk: &str, span: ArgumentSpan) -> Option<ArgumentSpan>
+    ensures { IfSome result
+        (λ marked. marked ≡ spec.mark parts.entry.unsure parts.entry.finders.now chunk.now span) }
 {
     let lines = between(chunk, span.from, span.to)?;
     Some(ArgumentSpan {
-        sought: may_hold(endings, lines),
+        sought: may_have(parts, lines),
         ..span
     })
 }
 
-/// The spans of a chunk, of which those are marked in whose lines a value with one of the ends may stand. None: one is of
-/// no part of the chunk.
+/// What a script looks for in rules, beside names.
+#[derive(Clone, Copy)]
+pub struct Sought<'v> {
+    /// It leaves the name of each rule, so that no other argument is left alone in its call.
+    pub alone: bool,
+    /// What is after the last colon or slash of each value that is sought in all attributes: texts that are the same label
+    /// end so.
+    pub endings: &'v [Text],
+    /// The same with a double quote, which closes a literal.
+    pub closings: &'v [Text],
+}
+
+/// The spans of a chunk, of which those are marked that may have a value that is sought. None: one is of no part of the
+/// chunk.
 pub(crate) fn mark_sought<'a>(
     bump: &'a Bump,
-    endings: &[Text],
+    sought: Sought<'_>,
+    chunk: &str,
+    spans: &'a [ArgumentSpan],
+) -> Result<Option<&'a [ArgumentSpan]>, NoMemory>
+    ensures { IfOk result (λ known. IfSome known (λ marked. marked.now
+        ≡ spec.marked sought.entry.endings.now sought.entry.closings.now chunk.now spans.now)) }
+{
+    if sought.endings.is_empty() && sought.closings.is_empty() {
+        return Ok(Some(spans));
+    }
+    if has_unsure(chunk) {
+        return mark_by(bump, true, sought.endings, chunk, spans);
+    }
+    mark_by(bump, false, sought.closings, chunk, spans)
+}
+
+/// The same, by one of the two.
+fn mark_by<'a>(
+    bump: &'a Bump,
+    unsure: bool,
+    parts: &[Text],
     chunk: &str,
     spans: &'a [ArgumentSpan],
 ) -> Result<Option<&'a [ArgumentSpan]>, NoMemory>
     ensures { IfOk result (λ known. IfSome known
-        (λ marked. marked.now ≡ spec.marked endings.now chunk.now spans.now)) }
+        (λ marked. marked.now ≡ spec.marked_by unsure parts.now chunk.now spans.now)) }
 {
-    if endings.is_empty() {
+    if parts.is_empty() {
         return Ok(Some(spans));
     }
-    let finders = finders_of(bump, endings)?;
+    let finders = finders_of(bump, parts)?;
+    let parts = Parts {
+        unsure,
+        finders: &finders,
+    };
     // Most rules hold none of them.
-    if !may_hold(&finders, chunk) {
+    if !may_have(parts, chunk) {
         return Ok(Some(spans));
     }
     let mut all = with_room_for(bump, spans, 0)?;
     for span in spans {
-        let Some(marked) = mark(&finders, chunk, *span) else {
+        let Some(marked) = mark(parts, chunk, *span) else {
             return Ok(None);
         };
         push(&mut all, marked)?;

@@ -13,7 +13,9 @@ use Rattle.bz_label.specs.Labels.{Name, Pkg, All, Kind as OfKind, Line}
 use Rattle.bz_attribute.specs.Rules.{Rule, is_text, rule_of}
 use Rattle.bz_canonical.specs.Canonical.{HasName, HasPlace, IsCanonical, IsReadBack, between, rule_name}
 use Rattle.bz_canonical.specs.Spans.{AreSpansOf}
+use Rattle.bz_canonical.specs.declared.chunk.CanonicalChunk.{CanonicalChunk}
 use Rattle.bz_canonical.specs.declared.place.ArgumentPlace.{ArgumentPlace}
+use Rattle.bz_canonical.specs.declared.spans.ArgumentSpan.{ArgumentSpan}
 use Rattle.bz_devices.specs.Ahead.{Ahead, IsFewAfter, IsNextChunk}
 use Rattle.bz_passes.specs.declared.index.Key.TheVariants.{Name as Named, NoName}
 use Rattle.bz_passes.specs.Exchange.{Fits}
@@ -21,7 +23,7 @@ use Rattle.bz_engine.specs.Outcome.{Run, Script}
 use Rattle.bz_engine.specs.Progress.{Progress}
 use Rattle.bz_engine.specs.declared.canonical.Found.{Found}
 use Rattle.bz_engine.specs.declared.next_chunk.NextChunk.{NextChunk}
-use Rattle.bz_engine.specs.private.Edits.{DoesNothing, EditsChunk, EditsWhole, IsEdited}
+use Rattle.bz_engine.specs.private.Edits.{DoesNothing, EditsChunk, EditsWhole}
 use Rattle.bz_engine.specs.private.Found.{HasItsSpans, HasNotedSpans, IsFoundOn}
 use Rattle.bz_engine.specs.private.NextChunks.{IsFirstEdited, IsKnownEdited}
 use Rattle.bz_engine.specs.private.Rows.{HasKey}
@@ -95,6 +97,23 @@ spans_found depth passes found text none c noted = record {
   spans = noted;
 }
 
+-- a chunk that the text begins with, of which it is known what would be written
+abbrev pub IsKnownIn : ℕ → List ℕ → CanonicalChunk → Type 0
+IsKnownIn depth text chunk =
+    IsCanonical depth chunk.class (option_map (λ name. name.now) chunk.name) (option_map (λ kind. kind.now) chunk.kind) chunk.chunk.now chunk.written.now text
+
+-- its arguments have the spans that were noted
+abbrev pub AreNotedSpans : ℕ → Script → List ArgumentSpan → CanonicalChunk → Type 0
+AreNotedSpans depth passes spans chunk = IsTrue chunk.noted → AreSpansOf depth (asked_names passes) chunk.chunk.now chunk.written.now spans
+
+-- the chunk as it was read, with the spans that were noted
+pub spans_read : (depth : ℕ) (passes : Script) (text : List ℕ) (chunk : CanonicalChunk) (spans : List ArgumentSpan) (found : Found)
+    → found.chunk ≡ chunk → found.place ≡ None → found.spans.now ≡ spans
+    → IsKnownIn depth text chunk → AreNotedSpans depth passes spans chunk → HasItsSpans depth passes found
+spans_read depth passes text chunk spans found chunk_is none spans_are known noted =
+    spans_found depth passes found text none (subst (IsKnownIn depth text) (sym chunk_is) known)
+    (subst (λ (l : List ArgumentSpan). AreNotedSpans depth passes l found.chunk) (sym spans_are) (subst (AreNotedSpans depth passes spans) (sym chunk_is) noted))
+
 all_taken : (chunk rest text : List ℕ) → text ≡ chunk ++ rest → length chunk ≡ length text → chunk ≡ text
 all_taken chunk [] text is size = sym (is ∙ append-nil chunk)
 all_taken chunk (b ∷ bs) text is size = absurd (omega (arith, ap length is, length-append chunk (b ∷ bs), size))
@@ -104,8 +123,8 @@ known_answer : (run : Run) (found : Found) (old new : Progress) (before after : 
     → HasItsSpans run.max_depth run.passes found → IsKnownEdited run found old new before after next → EditsChunk run found.chunk.chunk.now old new before after next.edited
 known_answer run found old new before after next its known cs statements kept =
     let read = its.read old.line in
-    subst (IsEdited run cs statements found.chunk.chunk.now old new before after) (sym known.edited_is)
-    (scripted_edited run cs statements found.chunk.chunk.now read.0 old known.mid new before after known.scripted kept (known.utf8, read.1.read) (known.is read.0 read.1) known.passed)
+    scripted_edited run cs statements found.chunk.chunk.now read.0 old known.mid new before after known.scripted next.edited kept (known.utf8, read.1.read) (known.is read.0 read.1) known.passed
+    known.edited_is
 
 known_line : (run : Run) (found : Found) (old new : Progress) (before after : List ℕ) (next : NextChunk) → IsKnownEdited run found old new before after next → new.line ≡ line_at old.line found.chunk.chunk.now
 known_line run found old new before after next known = ap (λ (p : Progress). p.line) known.passed ∙ ap (λ n. line_at n found.chunk.chunk.now) known.same_line

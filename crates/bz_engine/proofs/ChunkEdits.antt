@@ -11,9 +11,10 @@ use Rattle.bz_engine.specs.File.{IsAnswerOf}
 use Rattle.bz_engine.specs.Outcome.{Run, slots_of, is_query}
 use Rattle.bz_passes.specs.Passes.{slots_after}
 use Rattle.bz_engine.specs.Progress.{Progress, IsKeptOf, last_class, text_following}
+use Rattle.bz_engine.specs.declared.edit.Edited.{Edited}
 use Rattle.bz_engine.specs.declared.edit.Scripted.{Scripted}
 use Rattle.bz_engine.specs.declared.edit.Scripted.TheVariants as scripts
-use Rattle.bz_engine.specs.private.Edits.{IsDone, IsLaidOut, IsScripted, IsEdited, edited_of}
+use Rattle.bz_engine.specs.private.Edits.{IsDone, IsEditedOf, IsFailed, IsLaidOut, IsScripted, IsEdited, first_failed}
 use Rattle.bz_passes.proofs.ExchangeLaw.{map_more}
 use Rattle.bz_engine.proofs.Given.{give_blank, give_statement, line_following}
 use Rattle.bz_engine.proofs.MoreText.{text_after_more, last_after_more, text_after_none}
@@ -79,19 +80,22 @@ passed_by run class s old new before after passed of_class same text =
 
 -- what the script on a statement made of its chunk
 pub scripted_edited : (run : Run) (cs : List (List ℕ)) (ss : List Statement) (chunk : List ℕ) (s : Statement)
-    (old mid new : Progress) (before after : List ℕ) (scripted : Scripted)
+    (old mid new : Progress) (before after : List ℕ) (scripted : Scripted) (edited : Edited)
     → IsKeptOf run cs ss old → IsAnswerOf run.max_depth old.line chunk (Ok (Some s))
     → IsScripted run s old mid before after scripted
     → new ≡ record mid { line = line_at mid.line chunk }
-    → IsEdited run cs ss chunk old new before after (edited_of scripted)
-scripted_edited run cs ss chunk s old mid new before after scripts.Done kept gives laid is =
-    statement_done run cs ss chunk s old mid new before after kept gives laid is
-scripted_edited run cs ss chunk s old mid new before after (scripts.Failed message) kept gives ended is = record {
-  ends = ended.ends;
-  statement = s;
-  read = gives;
-  fails = ended.fails;
-  message_is = λ none_fails. ended.message_is none_fails (slots_of ss) kept.left;
-  changed = ap (λ p. p.changed) is ∙ ended.changed;
-  nothing = ended.nothing;
-}
+    → IsEditedOf new.kept scripted edited
+    → IsEdited run cs ss chunk old new before after edited
+scripted_edited run cs ss chunk s old mid new before after scripts.Done edited kept gives laid is of =
+    subst (IsEdited run cs ss chunk old new before after) (sym of) (statement_done run cs ss chunk s old mid new before after kept gives laid is)
+scripted_edited run cs ss chunk s old mid new before after scripts.Failed edited kept gives ended is of =
+    let failed : IsFailed run chunk of.0 old new before after = record {
+      ends = ended.ends;
+      statement = s;
+      read = gives;
+      fails = ended.fails;
+      message_is = λ none_fails. of.1.1 ∙ ap (λ (p : Progress). first_failed p.kept) is ∙ ended.message_is none_fails (slots_of ss) kept.left;
+      changed = ap (λ p. p.changed) is ∙ ended.changed;
+      nothing = ended.nothing;
+    } in
+    subst (IsEdited run cs ss chunk old new before after) (sym of.1.0) failed

@@ -1,10 +1,11 @@
 -- The names that are gathered of a script cover it.
-use Rattle.std.proofs.Common.{◌≡◌, ℕ, Bool, true, false, ◌&&◌, ◌||◌, if◌then◌else◌, List, [], ◌∷◌, ◌++◌, length, codes, nat_le, refl, ◌∙◌, ap, subst}
+use Rattle.std.proofs.Common.{◌≡◌, ℕ, Bool, true, false, ◌&&◌, ◌||◌, if◌then◌else◌, List, [], ◌∷◌, ◌++◌, length, map, codes, nat_le, refl, ◌∙◌, ap, subst}
 use Rattle.std.specs.Prelude.{Option, Some, None, bytes_eq, is_some, option_and_then, unwrap_or}
 use Rattle.std.specs.List.{flat_map, list_all}
 use Rattle.std.proofs.lemmas.Bool.{and_parts, false≢true, or_parts}
 use Rattle.std.proofs.lemmas.List.Folds.{list_any-append}
 use Rattle.bz_token.specs.Common.{is_filled, map_or, is_one_of}
+use Rattle.bz_label.specs.Endings.{ending, literal_end}
 use Rattle.bz_label.specs.Labels.{Target}
 use Rattle.bz_label.specs.declared.arguments.Chosen.TheVariants.{Values}
 use Rattle.bz_passes.specs.Passes.{Pass}
@@ -200,3 +201,8 @@ asked_for run some =
       covers = λ c is. let both = and_parts (is_covered names c) (seeks_some values c) is in asks_cover names values c run.home both.0 both.1;
       each = both_hold (is_covered names) (seeks_some values) run.passes cover.1 (passes_within run.passes values (λ a h. h));
     }
+
+-- the ends with a quote after each
+pub closings_are : (values : Names) → map (λ end. end ++ 34 ∷ []) (map ending values) ≡ map literal_end values
+closings_are [] = refl
+closings_are (v ∷ values) = ap (λ ends. literal_end v ∷ ends) (closings_are values)

@@ -1,5 +1,5 @@
 -- What the script made of a chunk that was found, where some arguments of its rule may be sealed.
-use Rattle.std.proofs.Common.{◌≡◌, ℕ, true, List, ap, sym, subst, ◌∙◌}
+use Rattle.std.proofs.Common.{◌≡◌, ℕ, true, List, ap, sym, subst, ◌∙◌, inl}
 use Rattle.std.specs.Prelude.{Option, None, Some, IfNone, IfSome}
 use Rattle.bz_token.specs.Common.{is_filled}
 use Rattle.bz_tree.specs.Tree.{Statement}
@@ -14,18 +14,18 @@ use Rattle.bz_engine.specs.private.Edits.{DoesNothing, IsLaidOut, IsScripted}
 use Rattle.bz_engine.specs.declared.sealed.HeadedRule.{HeadedRule}
 use Rattle.bz_engine.specs.private.Found.{HasItsSpans, IsFoundOn, IsRuleFound}
 use Rattle.bz_engine.specs.private.NextChunks.{ScriptsFound}
-use Rattle.bz_engine.specs.private.Sealed.{IsSealedRule, asked_names, is_asked_in}
+use Rattle.bz_engine.specs.private.Sealed.{IsSealedRule, asked_names, is_asked_in, leave_names}
 use Rattle.bz_engine.proofs.ScriptNames.{asked_for}
 use Rattle.bz_engine.proofs.SealedScript.{laid_same, scripted_same}
 
 pub script_line : (run : Run) (s : Statement) (old new : Progress) (before after : List ℕ) (scripted : Scripted) → IsScripted run s old new before after scripted → new.line ≡ old.line
 script_line run s old new before after scripts.Done done = done.line
-script_line run s old new before after (scripts.Failed message) done = done.line
+script_line run s old new before after scripts.Failed done = done.line
 
 -- the script ran on the rule with sealed arguments
 pub sealed_found : (run : Run) (found : Found) (old new : Progress) (before after : List ℕ) (line : ℕ) (t : Statement) (scripted : Scripted)
     → is_filled (asked_names run.passes) ≡ true → line ≡ old.line → Fits new.kept run.passes
-    → ((s : Statement) → IsFoundOn run.max_depth line found s → IsSealedRule (is_asked_in run) s t)
+    → ((s : Statement) → IsFoundOn run.max_depth line found s → IsSealedRule (is_asked_in run) (leave_names run.passes) s t)
     → IsScripted run t old new before after scripted → ScriptsFound run found old new before after (Some scripted)
 sealed_found run found old new before after line t scripted some at fits seals done = record {
   fits = fits;
@@ -35,19 +35,19 @@ sealed_found run found old new before after line t scripted some at fits seals d
 }
 
 -- what is written of the rule that was made
-pub made_written : (run : Run) (found : Found) (noted : HeadedRule) (line : ℕ) (made : Option Statement) → HasItsSpans run.max_depth run.passes found → IsRuleFound line found noted
-    → IfSome made (λ t. (line : ℕ) (s : Statement) → IsRuleFound line found noted → IsFoundOn run.max_depth line found s → IsSealedRule (is_asked_in run) s t)
+pub made_written : (run : Run) (found : Found) (noted : HeadedRule) (line : ℕ) (made : Option Statement) → is_filled (asked_names run.passes) ≡ true → HasItsSpans run.max_depth run.passes found → IsRuleFound line found noted
+    → IfSome made (λ t. (line : ℕ) (s : Statement) → IsRuleFound line found noted → IsFoundOn run.max_depth line found s → IsSealedRule (is_asked_in run) (leave_names run.passes) s t)
     → IfSome made (λ t. layout_text t ≡ found.chunk.written.now)
-made_written run found noted line None spans rule seals = tt
-made_written run found noted line (Some t) spans rule seals =
+made_written run found noted line None some spans rule seals = tt
+made_written run found noted line (Some t) some spans rule seals =
     let at = spans.read line in
     let is = seals line at.0 rule at.1 in
-    sym (laid_same (is_asked_in run) is.count at.0 t is.sealed is.enough) ∙ at.1.is.written
+    sym (laid_same (is_asked_in run) (asked_for run some).name is.count at.0 t is.sealed (inl is.named)) ∙ at.1.is.written
 
 -- the same, where a rule was made: else nothing is done
 pub sealed_done : (run : Run) (found : Found) (noted : HeadedRule) (old new : Progress) (before after : List ℕ) (line : ℕ) (made : Option Statement) (answer : Option Scripted)
     → is_filled (asked_names run.passes) ≡ true → line ≡ old.line → Fits new.kept run.passes → IsRuleFound line found noted
-    → IfSome made (λ t. (line : ℕ) (s : Statement) → IsRuleFound line found noted → IsFoundOn run.max_depth line found s → IsSealedRule (is_asked_in run) s t)
+    → IfSome made (λ t. (line : ℕ) (s : Statement) → IsRuleFound line found noted → IsFoundOn run.max_depth line found s → IsSealedRule (is_asked_in run) (leave_names run.passes) s t)
     → IfNone answer (DoesNothing old new before after)
     → IfSome answer (λ scripted. (t : Statement) × (made ≡ Some t) × IsScripted run t old new before after scripted) → ScriptsFound run found old new before after answer
 sealed_done run found noted old new before after line made None some at fits rule seals nothing done = record {
@@ -57,7 +57,7 @@ sealed_done run found noted old new before after line made None some at fits rul
   nothing = nothing;
 }
 sealed_done run found noted old new before after line made (Some scripted) some at fits rule seals nothing done =
-    let sealed = subst (λ (o : Option Statement). IfSome o (λ t. (line : ℕ) (s : Statement) → IsRuleFound line found noted → IsFoundOn run.max_depth line found s → IsSealedRule (is_asked_in run) s t)) done.1 seals in
+    let sealed = subst (λ (o : Option Statement). IfSome o (λ t. (line : ℕ) (s : Statement) → IsRuleFound line found noted → IsFoundOn run.max_depth line found s → IsSealedRule (is_asked_in run) (leave_names run.passes) s t)) done.1 seals in
     sealed_found run found old new before after line done.0 scripted some at fits (λ s is. sealed line s rule is) done.2
 
 -- the chunk was copied, or one argument was edited

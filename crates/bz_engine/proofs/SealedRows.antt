@@ -1,12 +1,14 @@
 -- The row that is made of a found rule, and its head, are those of the rule with sealed arguments.
-use Rattle.std.proofs.Common.{◌≡◌, ◌≢◌, ◌<◌, ℕ, suc, zero, List, [], ◌∷◌, Bool, length, map, take, drop, get_or, refl, sym, ap, subst, ◌∙◌, arith, append-nil, inl, inr}
-use Rattle.std.specs.Prelude.{None, Some, IsTrue, false, option_map}
+use Rattle.std.proofs.Common.{◌≡◌, ◌≢◌, ◌<◌, ◌⊎◌, Bool, true, ℕ, suc, zero, List, [], ◌∷◌, length, map, take, drop, get_or, refl, sym, ap, subst, ◌∙◌, arith, append-nil, inl, inr}
+use Rattle.std.specs.Prelude.{Option, None, Some, IsTrue, false, option_map}
+use Rattle.std.specs.List.{list_any}
+use Rattle.bz_token.specs.Common.{map_or}
 use Rattle.bz_token.specs.declared.token.Kind.TheVariants.{Identifier}
 use Rattle.bz_token.specs.Places.{line_at}
 use Rattle.bz_tree.specs.declared.row.Row.{Row}
 use Rattle.bz_tree.specs.Rows.{IsRowOf}
 use Rattle.bz_tree.specs.Tree.{Segment, Statement, leaf}
-use Rattle.bz_label.specs.Endings.{ending}
+use Rattle.bz_label.specs.Endings.{ending, literal_end}
 use Rattle.bz_label.specs.Labels.{Package}
 use Rattle.bz_attribute.specs.Heads.{IsHeadOf}
 use Rattle.bz_attribute.specs.Rules.{Rule, name_in, rule_of}
@@ -25,7 +27,7 @@ use Rattle.bz_engine.specs.Outcome.{Run}
 use Rattle.bz_engine.specs.declared.canonical.Found.{Found}
 use Rattle.bz_engine.specs.declared.sealed.HeadedRule.{HeadedRule}
 use Rattle.bz_engine.specs.private.Found.{HasItsSpans, IsFoundOn, IsRuleFound}
-use Rattle.bz_engine.specs.private.Sealed.{HasLinesOf, IsNoneOrMore, IsSealedRule, asked_names, asked_values, is_asked_in}
+use Rattle.bz_engine.specs.private.Sealed.{HasLinesOf, IsNoneOrMore, IsSealedRule, asked_names, asked_values, has_plain_name, is_asked_in, is_plain_name, leave_names}
 
 none_or_more : (n : ℕ) → n ≢ 1 → IsNoneOrMore n
 none_or_more zero other = inl refl
@@ -51,29 +53,37 @@ rule_head r head kind name start end = record {
 }
 
 -- what `seal` ensures of a row
-abbrev pub IsMade : List (List ℕ) → ℕ → HeadedRule → Row → Type 0
-IsMade endings depth noted row = (names : List (List ℕ)) (r : NamedRule) (stands : List (List ℕ)) → IsSpannedIn depth names r stands noted.rule.chunk.now noted.rule.rule.written.now noted.rule.rule.spans.now
-    → r.first_line ≡ noted.rule.start → r.last_line ≡ noted.rule.end → IsRowOf (statement_of (sealed_rule (are_shown (drop 1 (marked endings noted.rule.chunk.now noted.rule.rule.spans.now))) r)) row
+abbrev pub IsMade : Bool → List (List ℕ) → List (List ℕ) → ℕ → HeadedRule → Row → Type 0
+IsMade alone endings closings depth noted row = (names : List (List ℕ)) (r : NamedRule) (stands : List (List ℕ)) → IsSpannedIn depth names r stands noted.rule.chunk.now noted.rule.rule.written.now noted.rule.rule.spans.now
+    → r.first_line ≡ noted.rule.start → r.last_line ≡ noted.rule.end → IsRowOf (statement_of (sealed_rule (are_shown alone (drop 1 (marked endings closings noted.rule.chunk.now noted.rule.rule.spans.now))) r)) row
 
 -- What is known of the statement of a found rule: its head, and the same rule with sealed arguments, which has this head.
-pub record HasSealed (depth : ℕ) (endings : List (List ℕ)) (asks : Segment → Bool) (s : Statement) (noted : HeadedRule) : Type 0 where
+pub record HasSealed (alone : Bool) (depth : ℕ) (values : List (List ℕ)) (asks : Segment → Bool) (s : Statement) (noted : HeadedRule) : Type 0 where
   pub head : IsHeadOf noted.head s
   pub sealed : Statement
   pub sealed_head : IsHeadOf noted.head sealed
-  pub row_is : (row : Row) → IsMade endings depth noted row → IsRowOf sealed row
-  pub is : IsSealedRule asks s sealed
+  pub row_is : (row : Row) → IsMade alone (map ending values) (map literal_end values) depth noted row → IsRowOf sealed row
+  pub is : IsSealedRule asks alone s sealed
 
 no_span : ArgumentSpan
 no_span = record { from = 0; to = 0; start = 0; comma = 0; end = 0; named = None; sought = false }
 
-has_sealed : (line depth : ℕ) (names values : List (List ℕ)) (home : Package) (s : Statement) (found : Found) (noted : HeadedRule) → HasSpans line depth names s found.chunk.chunk.now found.chunk.written.now found.spans.now → IsFoundOn depth line found s → IsRuleFound line found noted
-    → HasSealed depth (map ending values) (is_asked_for names values home) s noted
-has_sealed line depth names values home s found noted has at is =
+plain_name : (r : NamedRule) → has_plain_name (statement_of r) ≡ true
+plain_name r = ap (λ (o : Option Rule). map_or false (λ t. list_any is_plain_name t.args) o) (read_rule r)
+
+-- one alone is sealed only where it may be
+one_or_more : (alone : Bool) (spans : List ArgumentSpan) → (alone ≡ true) ⊎ IsNoneOrMore (count_sealed (are_shown alone spans))
+one_or_more true spans = inl refl
+one_or_more false spans = inr (none_or_more (count_sealed (are_shown false spans)) (never_one spans))
+
+has_sealed : (alone : Bool) (line depth : ℕ) (names values : List (List ℕ)) (home : Package) (s : Statement) (found : Found) (noted : HeadedRule) → HasSpans line depth names s found.chunk.chunk.now found.chunk.written.now found.spans.now → IsFoundOn depth line found s → IsRuleFound line found noted
+    → HasSealed alone depth values (is_asked_for names values home) s noted
+has_sealed alone line depth names values home s found noted has at is =
     let r : NamedRule = has.rule in
     let chunk : List ℕ = noted.rule.chunk.now in
     let written : List ℕ = noted.rule.rule.written.now in
     let spans : List ArgumentSpan = noted.rule.rule.spans.now in
-    let shown : List Bool = are_shown (drop 1 (marked (map ending values) chunk spans)) in
+    let shown : List Bool = are_shown alone (drop 1 (marked (map ending values) (map literal_end values) chunk spans)) in
     let F : List ℕ = front_text r.notes r.kind in
     let spanned : IsSpannedIn depth names r has.stands chunk written spans =
     subst (λ (t : List ArgumentSpan). IsSpannedIn depth names r has.stands chunk written t) (sym is.spans_are)
@@ -95,11 +105,12 @@ has_sealed line depth names values home s found noted has at is =
       row_is = λ row made. made names r has.stands spanned first last;
       is = record {
         count = count_sealed shown;
-        enough = none_or_more (count_sealed shown) (never_one (drop 1 (marked (map ending values) chunk spans)));
-        sealed = subst (λ (z : Statement). IsSealed HasLinesOf (is_asked_for names values home) (count_sealed shown) z (statement_of (sealed_rule shown r))) (sym has.statement_is) (rule_sought names values home depth r has.stands chunk written spans spanned);
+        enough = one_or_more alone (drop 1 (marked (map ending values) (map literal_end values) chunk spans));
+        named = plain_name (sealed_rule shown r);
+        sealed = subst (λ (z : Statement). IsSealed HasLinesOf (is_asked_for names values home) (count_sealed shown) z (statement_of (sealed_rule shown r))) (sym has.statement_is) (rule_sought names values home depth r has.stands chunk written spans alone spanned);
       };
     }
 
 pub sealed_of : (line : ℕ) (run : Run) (found : Found) (noted : HeadedRule) → HasItsSpans run.max_depth run.passes found → IsTrue found.chunk.noted → IsRuleFound line found noted → (s : Statement) → IsFoundOn run.max_depth line found s
-    → HasSealed run.max_depth (map ending (asked_values run.passes)) (is_asked_in run) s noted
-sealed_of line run found noted spans known is s at = has_sealed line run.max_depth (asked_names run.passes) (asked_values run.passes) run.home s found noted (spans.spans known line s at.read) at is
+    → HasSealed (leave_names run.passes) run.max_depth (asked_values run.passes) (is_asked_in run) s noted
+sealed_of line run found noted spans known is s at = has_sealed (leave_names run.passes) line run.max_depth (asked_names run.passes) (asked_values run.passes) run.home s found noted (spans.spans known line s at.read) at is

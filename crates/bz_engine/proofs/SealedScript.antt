@@ -1,5 +1,5 @@
 -- The script does to a rule what it does to the rule with sealed arguments, and tells the same.
-use Rattle.std.proofs.Common.{◌≡◌, ℕ, Bool, true, List, [], ◌∷◌, ◌++◌, map, codes, take, refl, sym, ◌∙◌, ap, subst, inl, inr}
+use Rattle.std.proofs.Common.{◌≡◌, ◌⊎◌, ℕ, Bool, true, List, [], ◌∷◌, ◌++◌, map, codes, take, refl, sym, ◌∙◌, ap, subst, inl, inr}
 use Rattle.std.specs.Prelude.{Option, Some, if◌then◌else◌, option_to_list}
 use Rattle.std.specs.List.{flat_map, list_all}
 use Rattle.bz_token.specs.Common.{map_or}
@@ -29,10 +29,11 @@ use Rattle.bz_engine.specs.Progress.{Progress, last_class, text_following}
 use Rattle.bz_engine.specs.declared.edit.Scripted.{Scripted}
 use Rattle.bz_engine.specs.declared.edit.Scripted.TheVariants as scripts
 use Rattle.bz_engine.specs.private.Edits.{IsScripted}
-use Rattle.bz_engine.specs.private.Sealed.{HasLinesOf, IsNoneOrMore, IsSealedRule}
+use Rattle.bz_engine.specs.private.Sealed.{HasLinesOf, IsNoneOrMore, IsSealedRule, has_plain_name, leave_names}
+use Rattle.bz_engine.proofs.NameStays.{name_stays, slot_named}
 use Rattle.bz_engine.proofs.Noted.{says_is}
 use Rattle.bz_engine.proofs.OneSlot.{fails_alone, said_alone}
-use Rattle.bz_engine.proofs.SealedText.{sealed_written, unsealed_same}
+use Rattle.bz_engine.proofs.SealedText.{named_written, sealed_written, unsealed_same}
 
 -- a slot, and the same where arguments are sealed
 abbrev AreLike : (Segment → Bool) → ℕ → Slot Statement → Slot Statement → Type 0
@@ -77,26 +78,31 @@ passes_keep asks home passes covered count =
 class_same : (asks : Segment → Bool) (count : ℕ) (s t : Statement) → IsSealed HasLinesOf asks count s t → t.class ≡ s.class
 class_same asks count s t is = ap (λ (z : Statement). z.class) is.rest
 
-pub laid_same : (asks : Segment → Bool) (count : ℕ) (s t : Statement) → IsSealed HasLinesOf asks count s t → IsNoneOrMore count → layout_text s ≡ layout_text t
-laid_same asks count s t is (inl none) = ap layout_text (unsealed_same asks s t (subst (λ n. IsSealed HasLinesOf asks n s t) none is))
-laid_same asks count s t is (inr two) = sealed_written asks count s t is two
+more_laid_same : (asks : Segment → Bool) (count : ℕ) (s t : Statement) → IsSealed HasLinesOf asks count s t → IsNoneOrMore count → layout_text s ≡ layout_text t
+more_laid_same asks count s t is (inl none) = ap layout_text (unsealed_same asks s t (subst (λ n. IsSealed HasLinesOf asks n s t) none is))
+more_laid_same asks count s t is (inr two) = sealed_written asks count s t is two
+
+pub laid_same : (asks : Segment → Bool) → Covers asks (is_named (codes "name")) → (count : ℕ) (s t : Statement) → IsSealed HasLinesOf asks count s t → (has_plain_name t ≡ true) ⊎ IsNoneOrMore count
+    → layout_text s ≡ layout_text t
+laid_same asks seen count s t is (inl named) = named_written asks seen count s t is named
+laid_same asks seen count s t is (inr more) = more_laid_same asks count s t is more
 
 last_same : (asks : Segment → Bool) (count : ℕ) (last : Option Class) (x y : Slot Statement) → AreLike asks count x y → last_class last (y ∷ []) ≡ last_class last (x ∷ [])
 last_same asks count last _ _ both_empty = refl
 last_same asks count last _ _ (both_rules {s} {t} is) = ap Some (class_same asks count s t is)
 
-text_same : (asks : Segment → Bool) (count : ℕ) → IsNoneOrMore count → (last : Option Class) (x y : Slot Statement) → AreLike asks count x y
-    → text_following last (y ∷ []) ≡ text_following last (x ∷ [])
-text_same asks count enough last _ _ both_empty = refl
-text_same asks count enough last _ _ (both_rules {s} {t} is) =
-    λ i. gap_text (lines_before last (class_same asks count s t is i)) ++ (sym (laid_same asks count s t is enough) i ++ [])
+text_same : (asks : Segment → Bool) → Covers asks (is_named (codes "name")) → (count : ℕ) (last : Option Class) (x y : Slot Statement) → AreLike asks count x y
+    → (slot_named y ≡ true) ⊎ IsNoneOrMore count → text_following last (y ∷ []) ≡ text_following last (x ∷ [])
+text_same asks seen count last _ _ both_empty enough = refl
+text_same asks seen count last _ _ (both_rules {s} {t} is) enough =
+    λ i. gap_text (lines_before last (class_same asks count s t is i)) ++ (sym (laid_same asks seen count s t is enough) i ++ [])
 
 said_same : (home : Package) (passes : Script) (x y : Slot Statement) → GiveTheSame (meaning home) (changes home) (fails_on home) passes x y
     → said (meaning home) (executions_of (meaning home) passes (y ∷ [])) ≡ said (meaning home) (executions_of (meaning home) passes (x ∷ []))
 said_same home passes x y same = said_alone (meaning home) passes y ∙ ap log_alone (sym same.kept) ∙ sym (said_alone (meaning home) passes x)
 
 -- the script on both
-pub scripted_same : (asks : Segment → Bool) (run : Run) (s t : Statement) (old new : Progress) (before after : List ℕ) (scripted : Scripted) → AsksFor asks run.home run.passes → IsSealedRule asks s t
+pub scripted_same : (asks : Segment → Bool) (run : Run) (s t : Statement) (old new : Progress) (before after : List ℕ) (scripted : Scripted) → AsksFor asks run.home run.passes → IsSealedRule asks (leave_names run.passes) s t
     → IsScripted run t old new before after scripted → IsScripted run s old new before after scripted
 scripted_same asks run s t old new before after scripted covered is done = by scripted done
   where
@@ -112,15 +118,18 @@ scripted_same asks run s t old new before after scripted covered is done = by sc
     left : AreLike asks is.count (slot_after (meaning run.home) run.passes (Some s)) (slot_after (meaning run.home) run.passes (Some t))
     left = like_after _ (changes run.home) (fails_on run.home) (AreLike asks is.count) run.passes keep (Some s) (Some t) alike
 
+    enough : (slot_named (slot_after (meaning run.home) run.passes (Some t)) ≡ true) ⊎ IsNoneOrMore is.count
+    enough = elim is.enough [ inl stay ↦ inl (name_stays run.home run.passes stay t is.named) | inr more ↦ inr more ]
+
     by : (scripted : Scripted) → IsScripted run t old new before after scripted → IsScripted run s old new before after scripted
     by scripts.Done laid = record {
       left = λ slots given. same.left slots new.kept new.changed new.failed (laid.left slots given);
       last = laid.last ∙ last_same asks is.count old.last _ _ left;
       line = laid.line;
-      text = laid.text ∙ ap (λ l. before ++ (if is_query run.passes then [] else l)) (text_same asks is.count is.enough old.last _ _ left);
+      text = laid.text ∙ ap (λ l. before ++ (if is_query run.passes then [] else l)) (text_same asks covered.name is.count old.last _ _ left enough);
       none_fails = laid.none_fails;
     }
-    by (scripts.Failed message) ended = record {
+    by scripts.Failed ended = record {
       ends = ended.ends;
       fails = λ none_fails. fails_alone run.home run.passes s ∙ same.failed ∙ sym (fails_alone run.home run.passes t) ∙ ended.fails none_fails;
       message_is = λ none_fails slots given. ended.message_is none_fails slots given ∙ ap (λ l. take 1 (flat_map failure_text l)) (said_same run.home run.passes (Some s) (Some t) same);

@@ -26,6 +26,7 @@ use crate::next_chunk::NextChunk;
 use crate::progress::Progress;
 use crate::rules::Rules;
 use crate::sealed::edit_sealed;
+use crate::spare::ChunkBuffers;
 use crate::written::put_canonical;
 use bz_canonical::{ArgumentPlace, ArgumentSpan, AsksOfRules, CanonicalChunk, read_canonical};
 use bz_devices::ahead::Ahead;
@@ -43,6 +44,7 @@ pub(crate) fn copy_canonical(
     ahead: &Ahead,
     script: ScriptRun<'_>,
     progress: &mut Progress,
+    buffers: &mut ChunkBuffers,
     text: &mut Vec<u8>,
 ) -> Result<Option<NextChunk>, NoMemory>
     requires few { IsFewAfter ahead.now }
@@ -57,23 +59,15 @@ pub(crate) fn copy_canonical(
     if !script.passes.may_be_known() || !progress.is_worth_a_look() {
         return Ok(None);
     }
-    let mut buffers = progress.take_buffers(script.alloc);
-    match find_canonical(
-        script,
-        ahead.text(),
-        script.max_statement,
-        &mut buffers.written,
-        &mut buffers.spans,
-    )? {
-        None => {
-            progress.give_back_buffers(buffers);
+    let ChunkBuffers { written, spans } = buffers;
+    match read_canonical(ahead.text(), &script, script.max_depth, written, spans)? {
+        Some(chunk) if chunk.chunk.len() as u64 <= script.max_statement => {
+            let found = found_with(chunk, spans.as_slice());
+            copy_known(script, found, progress, text)
+        }
+        _ => {
             progress.fail_look();
             Ok(None)
-        }
-        Some(found) => {
-            let next = copy_known(script, found, progress, text)?;
-            progress.give_back_buffers(buffers);
-            Ok(next)
         }
     }
 }
@@ -84,6 +78,7 @@ pub(crate) fn copy_whole(
     script: ScriptRun<'_>,
     chunk: &str,
     progress: &mut Progress,
+    buffers: &mut ChunkBuffers,
     text: &mut Vec<u8>,
 ) -> Result<Option<Edited>, NoMemory>
     requires fits { Fits progress.old.kept script.passes.now }
@@ -94,23 +89,14 @@ pub(crate) fn copy_whole(
     if !script.passes.may_be_known() {
         return Ok(None);
     }
-    let mut buffers = progress.take_buffers(script.alloc);
-    match find_canonical(
-        script,
-        chunk,
-        u64::MAX,
-        &mut buffers.written,
-        &mut buffers.spans,
-    )? {
-        Some(found) if found.chunk.chunk.len() == chunk.len() => {
+    let ChunkBuffers { written, spans } = buffers;
+    match read_canonical(chunk, &script, script.max_depth, written, spans)? {
+        Some(known) if known.chunk.len() == chunk.len() => {
+            let found = found_with(known, spans.as_slice());
             let next = copy_known(script, found, progress, text)?;
-            progress.give_back_buffers(buffers);
             Ok(edited_in(next))
         }
-        _ => {
-            progress.give_back_buffers(buffers);
-            Ok(None)
-        }
+        _ => Ok(None),
     }
 }
 
@@ -152,7 +138,7 @@ fn copy_known(
     progress.pass(lines);
     Ok(Some(NextChunk {
         len: found.chunk.chunk.len(),
-        edited: edited_of(scripted),
+        edited: edited_of(script.alloc, scripted, progress)?,
     }))
 }
 
@@ -210,36 +196,19 @@ pub(crate) struct Found<'a> {
     pub(crate) spans: &'a [ArgumentSpan],
 }
 
-/// The chunk that the text begins with, where it is known what would be written of it, and it is not too long.
+/// A chunk that was found, and where its arguments stand. No argument is looked for yet.
 #[inline(always)]
-fn find_canonical<'a, 'b: 'a>(
-    script: ScriptRun<'a>,
-    text: &'a str,
-    max_statement: u64,
-    written: &'a mut Vec<u8>,
-    spans: &'b mut Vec<ArgumentSpan>,
-) -> Result<Option<Found<'a>>, NoMemory>
-    ensures canonical { IfOk result (λ known. IfSome known (λ found. IsCanonical script.entry.max_depth
-        found.chunk.class (option_map (λ name. name.now) found.chunk.name)
-        (option_map (λ kind. kind.now) found.chunk.kind) found.chunk.chunk.now found.chunk.written.now text.now)) }
-    ensures size { IfOk result (λ known. IfSome known (λ found. length found.chunk.chunk.now ≤ max_statement)) }
-    ensures left { IfOk result (λ known. IfSome known (λ found. IsTrue found.chunk.left
-        → IsNamePassedBy script.entry.home.now script.entry.passes.now
-        (option_map (λ name. name.now) found.chunk.name))) }
-    ensures spans { IfOk result (λ known. IfSome known (HasItsSpans script.entry.max_depth script.entry.passes.now)) }
+fn found_with<'a>(chunk: CanonicalChunk<'a>, spans: &'a [ArgumentSpan]) -> Found<'a>
+    ensures chunk { result.chunk ≡ chunk.entry }
+    ensures place { result.place ≡ None }
+    ensures spans { result.spans.now ≡ spans.now }
 {
-    let Some(chunk) = read_canonical(text, &script, script.max_depth, written, spans)? else {
-        return Ok(None);
-    };
-    if chunk.chunk.len() as u64 > max_statement {
-        return Ok(None);
-    }
-    Ok(Some(Found {
+    Found {
         chunk,
         attr: "",
         place: None,
-        spans: spans.as_slice(),
-    }))
+        spans,
+    }
 }
 
 /// No pass of the script may mark the statement.

@@ -32,7 +32,7 @@ pub(crate) fn newlines(bytes: &[u8]) -> u64
 }
 
 // A byte counts as many, and they are a multiple of what is counted at once.
-const MOST_AT_ONCE: usize = 240;
+const MOST_AT_ONCE: usize = 224;
 
 // Counted in a byte, so that the compiler counts several bytes at once.
 fn few_newlines(bytes: &[u8]) -> u8

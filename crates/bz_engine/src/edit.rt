@@ -7,7 +7,7 @@ ghost use Rattle.bz_layout.specs.Layout.{layout_text};
 ghost use Rattle.bz_passes.specs.Entries.{failure_text};
 ghost use Rattle.bz_passes.specs.Exchange.{Fits, log_alone};
 ghost use Rattle.bz_engine.specs.private.ChunkRead.{IsReadAs};
-ghost use Rattle.bz_engine.specs.private.Edits.{EditsChunk, IsScripted, edited_of, run_of};
+ghost use Rattle.bz_engine.specs.private.Edits.{EditsChunk, IsEditedOf, IsFailedBy, IsScripted, run_of};
 ghost use Rattle.bz_engine.specs.private.Rows.{IsOfRow};
 
 use crate::progress::Progress;
@@ -53,25 +53,40 @@ pub(crate) enum Edited {
 }
 
 /// What the script made of a statement: a small value, since one is made of each.
-#[derive(Drop)]
+#[derive(Clone, Copy)]
 pub(crate) enum Scripted {
     Done,
-    /// An execution failed, and failures end the run: the message of the first.
-    Failed(Option<Text>),
+    /// An execution failed, and failures end the run: what is kept has the message of the first.
+    Failed,
 }
 
-/// What the script made of the chunk of a statement.
-pub(crate) fn edited_of(scripted: Scripted) -> Edited
-    ensures { result ≡ edited_of scripted }
+/// What the script made of the chunk of a statement, the last that is done.
+#[inline(always)]
+pub(crate) fn edited_of(
+    alloc: Global,
+    scripted: Scripted,
+    progress: &Progress,
+) -> Result<Edited, NoMemory>
+    ensures { IfOk result (IsEditedOf progress.now.kept scripted) }
 {
     match scripted {
-        Scripted::Done => Edited::Done,
-        Scripted::Failed(message) => Edited::Failed(message),
+        Scripted::Done => Ok(Edited::Done),
+        Scripted::Failed => first_failed(alloc, progress.kept.as_slice()),
     }
+}
+
+/// The first failure that was told: it ends the run, so this is rare.
+#[inline(never)]
+fn first_failed(alloc: Global, kept: &[Kept]) -> Result<Edited, NoMemory>
+    ensures { IfOk result (IsFailedBy kept.now) }
+{
+    let message = first_failure(alloc, kept)?;
+    Ok(Edited::Failed(message))
 }
 
 /// Runs the script on the next chunk, which is read as this: what it leaves goes after the text, and what is kept is
 /// then that of the chunks with this one. After a refusal neither the text nor what is kept is of use.
+#[inline(always)]
 pub(crate) fn edit_chunk<'a>(
     script: ScriptRun<'a>,
     chunk: &str,
@@ -98,7 +113,8 @@ pub(crate) fn edit_chunk<'a>(
     };
     let scripted = edit_row(script, row, progress, text)?;
     progress.pass_lines(chunk.as_bytes());
-    Ok(edited_of(scripted))
+    let edited = edited_of(script.alloc, scripted, progress)?;
+    Ok(edited)
 }
 
 /// Runs the script on the statement of a row.
@@ -162,8 +178,7 @@ pub(crate) fn edit_slot<'a>(
     let passes = script.passes.indexed();
     run_script(&rules, passes, slot, &mut *kept, &mut facts)?;
     if facts.failed && !script.keep_going {
-        let failure = first_failure(script.alloc, kept)?;
-        return Ok(Scripted::Failed(failure));
+        return Ok(Scripted::Failed);
     }
     progress.changed |= facts.changed;
     progress.failed = facts.failed;

@@ -25,6 +25,7 @@ pub(crate) fn not_found(alloc: Global, home: &Package, target: &Target) -> Resul
 
 /// What is told of a note on a rule, which is shown as `rule`: whether it is a warning or a failure, and its text. All
 /// else follows from that: the status, and whether the run goes on.
+#[inline(always)]
 pub(crate) fn note_entry(rule: String, note: &Note) -> Result<Entry, NoMemory>
     ensures { IfOk result (λ entry. entry ≡ note_entry (string_bytes rule) note.now) }
 {
@@ -71,6 +72,7 @@ pub(crate) fn missing_name(alloc: Global, home: &Package, kind: &str) -> Result<
 }
 
 /// A rule, and what is said of one of its attributes.
+#[inline(always)]
 fn of_attribute(rule: String, before: &str, attr: &str, after: &str) -> Result<Text, NoMemory>
     ensures { IfOk result (λ t. t ≡ string_bytes rule ++ before.now ++ attr.now ++ after.now) }
 {

@@ -1,7 +1,7 @@
 //! The attributes that a script mentions, and the values that it seeks in all. Of a rule the script sees no other argument.
 
-ghost use Rattle.std.specs.Prelude.{◌≡◌, ◌++◌, ◌∷◌, [], IfOk, None, OnOk, Some, bytes_eq, flat_map, if◌then◌else◌, length, map};
-ghost use Rattle.std.specs.List.{position};
+ghost use Rattle.std.specs.Prelude.{◌≡◌, ◌++◌, ◌∷◌, [], IfOk, None, OnOk, Some, bytes_eq, codes, flat_map, if◌then◌else◌, length, map};
+ghost use Rattle.std.specs.List.{list_all, position};
 ghost use Rattle.bz_token.specs.Common.{is_one_of};
 ghost use Rattle.bz_label.specs.Endings as endings;
 ghost use Rattle.bz_rule.specs.Forms.{listed};
@@ -9,7 +9,7 @@ ghost use Rattle.bz_rule.specs.Sealed as sealed;
 ghost use Rattle.bz_engine.specs.private.Sealed as spec;
 
 use bz_label::{Text, ending};
-use bz_memory::{NoMemory, push};
+use bz_memory::{NoMemory, from_str, push, push_char};
 use bz_passes::pass::Pass;
 use bz_rule::forms::Values;
 use bz_rule::{Command, Target, attributes_of, values_sought};
@@ -130,6 +130,19 @@ pub(crate) fn sought_endings(
     Ok(ends)
 }
 
+/// What closes literals with these ends: each with a double quote.
+pub(crate) fn closings_of(alloc: Global, ends: &[Text]) -> Result<Vec<Text>, NoMemory>
+    ensures { IfOk result (λ closings. closings.items ≡ map (λ end. end ++ 34 ∷ []) ends.now) }
+{
+    let mut closings = Vec::new(alloc);
+    for end in ends {
+        let mut closing = from_str(alloc, end.as_str())?;
+        push_char(&mut closing, '"')?;
+        push(&mut closings, Text::from_string(closing))?;
+    }
+    Ok(closings)
+}
+
 /// Adds the ends of the values that the commands seek in all attributes.
 fn add_endings(alloc: Global, ends: &mut Vec<Text>, commands: &[Command]) -> Result<(), NoMemory>
     ensures { OnOk result (ends.new.items ≡ ends.old.items
@@ -164,6 +177,53 @@ fn add_ending(alloc: Global, ends: &mut Vec<Text>, value: &str) -> Result<(), No
     ensures { OnOk result (ends.new.items ≡ ends.old.items ++ (endings.ending value.now ∷ [])) }
 {
     push(ends, Text::from_str(alloc, ending(value))?)
+}
+
+/// Whether no command changes an argument `name` without lists: each prints, or mentions no such attribute.
+pub(crate) fn leave_names(alloc: Global, passes: &[Pass<Target, Command>]) -> Result<bool, NoMemory>
+    ensures { IfOk result (λ all. all ≡ spec.leave_names passes.now) }
+{
+    for pass in passes {
+        if !all_leave_names(alloc, pass.commands.as_slice())? {
+            return Ok(false);
+        }
+    }
+    Ok(true)
+}
+
+fn all_leave_names(alloc: Global, commands: &[Command]) -> Result<bool, NoMemory>
+    ensures { IfOk result (λ all. all ≡ list_all spec.leaves_name commands.now) }
+{
+    for command in commands {
+        if !leaves_name(alloc, command)? {
+            return Ok(false);
+        }
+    }
+    Ok(true)
+}
+
+fn leaves_name(alloc: Global, command: &Command) -> Result<bool, NoMemory>
+    ensures { IfOk result (λ leaves. leaves ≡ spec.leaves_name command.now) }
+{
+    if command.is_print() {
+        return Ok(true);
+    }
+    let Some(names) = attributes_of(alloc, command)? else {
+        return Ok(false);
+    };
+    Ok(!are_some_name(names.as_slice()))
+}
+
+/// One of the names is `name`.
+fn are_some_name(names: &[&str]) -> bool
+    ensures { result ≡ is_one_of (map (λ name. name.now) names.now) (codes "name") }
+{
+    for name in names {
+        if "name" == *name {
+            return true;
+        }
+    }
+    false
 }
 
 fn is_one_of(names: &[Text], asked: &str) -> bool

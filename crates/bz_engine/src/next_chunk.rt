@@ -12,6 +12,7 @@ use crate::canonical::copy_whole;
 use crate::chunk::not_utf8;
 use crate::edit::{Edited, ScriptRun, edit_chunk};
 use crate::progress::Progress;
+use crate::spare::ChunkBuffers;
 use bz_devices::ahead::Ahead;
 use bz_memory::NoMemory;
 use bz_token::{Token, check_utf8, first_chunk};
@@ -56,7 +57,7 @@ pub(crate) fn edit_first(
 }
 
 /// Runs the script on the chunk that has these tokens.
-#[inline(never)]
+#[inline(always)]
 fn edit_tokens<'a>(
     script: ScriptRun<'a>,
     chunk: &'a str,
@@ -81,6 +82,7 @@ pub(crate) fn edit_bytes(
     script: ScriptRun<'_>,
     chunk: &[u8],
     progress: &mut Progress,
+    buffers: &mut ChunkBuffers,
     text: &mut Vec<u8>,
 ) -> Result<Edited, NoMemory>
     requires fits { Fits progress.old.kept script.passes.now }
@@ -95,7 +97,7 @@ pub(crate) fn edit_bytes(
         Ok(whole) => whole,
         Err(valid) => return Ok(Edited::Faulty(not_utf8(line, &chunk[..valid]))),
     };
-    if let Some(edited) = copy_whole(script, whole, progress, text)? {
+    if let Some(edited) = copy_whole(script, whole, progress, buffers, text)? {
         return Ok(edited);
     }
     let read = read_text(script.alloc, script.bump, whole, line, script.max_depth);

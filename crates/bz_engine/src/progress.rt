@@ -10,7 +10,7 @@ ghost use Rattle.bz_engine.specs.private.Found.{HasLogAt, log_of, one_log_of, on
 use crate::chunk::newlines;
 use crate::failure::Message;
 use crate::looks::Looks;
-use crate::spare::{ChunkBuffers, Spare};
+use crate::spare::Spare;
 use bz_memory::NoMemory;
 use bz_passes::kept::Kept;
 use bz_passes::log::Log;
@@ -36,8 +36,6 @@ pub(crate) struct Progress {
     pub(crate) looks: Looks,
     /// Contracts do not see this either.
     pub(crate) spare: Spare,
-    /// Contracts do not see these either.
-    pub(crate) buffers: ChunkBuffers,
     /// Lists of sealed rules stand in the arena. Contracts do not see it either.
     pub(crate) lists: bool,
 }
@@ -68,10 +66,9 @@ impl Progress {
             line: _,
             looks: _,
             spare,
-            buffers,
             lists: _,
         } = self;
-        spare.held().saturating_add(buffers.held())
+        spare.held()
     }
 
     /// The lines of a chunk are passed.
@@ -124,20 +121,6 @@ impl Progress {
         ensures { self.new ≡ self.old }
     {
         self.spare = spare;
-    }
-
-    /// The buffers for a chunk, until they are given back.
-    pub(crate) fn take_buffers(&mut self, alloc: Global) -> ChunkBuffers
-        ensures { self.new ≡ self.old }
-    {
-        mem::replace(&mut self.buffers, ChunkBuffers::new(alloc))
-    }
-
-    #[inline(always)]
-    pub(crate) fn give_back_buffers(&mut self, buffers: ChunkBuffers)
-        ensures { self.new ≡ self.old }
-    {
-        self.buffers = buffers;
     }
 
     /// The lists of a sealed rule are to stand in the arena.

@@ -38,6 +38,7 @@ pub(crate) fn is_passed_by(script: ScriptRun<'_>, head: Option<Head<'_>>) -> boo
 }
 
 /// The passes are few, and none marks the rule of this head.
+#[inline(always)]
 fn none_marks(passes: &[Pass<Target, Command>], head: Option<Head<'_>>) -> bool
     ensures { IsTrue result → (s : Statement) → HasHead head.entry s → spec.none_marks passes.now s ≡ true }
 {
@@ -48,6 +49,7 @@ fn none_marks(passes: &[Pass<Target, Command>], head: Option<Head<'_>>) -> bool
 }
 
 /// No target of the passes marks the rule of this head.
+#[inline(always)]
 fn is_unmarked(passes: &[Pass<Target, Command>], head: Head<'_>) -> bool
     ensures { IsTrue result → (s : Statement) → IsHeadOf head.entry s → spec.none_marks passes.now s ≡ true }
 {

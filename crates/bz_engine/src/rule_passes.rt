@@ -7,11 +7,12 @@ ghost use Rattle.bz_engine.specs.Outcome as spec;
 ghost use Rattle.bz_engine.specs.Scripts.{AreCommands};
 ghost use Rattle.bz_engine.specs.private.Found.{one_pass};
 ghost use Rattle.bz_engine.specs.private.Named.{all_named};
-ghost use Rattle.bz_engine.specs.private.Sealed.{asked_names, asked_values};
-ghost use Rattle.bz_label.specs.Endings.{ending};
+ghost use Rattle.bz_engine.specs.private.Sealed.{asked_names, asked_values, leave_names};
+ghost use Rattle.bz_label.specs.Endings.{ending, literal_end};
 
 use crate::answer::is_answerable;
-use crate::names::{asked_names, sought_endings};
+use crate::names::{asked_names, closings_of, leave_names, sought_endings};
+use bz_canonical::Sought;
 use bz_label::{Marked, Text};
 use bz_memory::NoMemory;
 use bz_passes::pass::Pass;
@@ -32,8 +33,12 @@ pub(crate) struct RulePasses {
     finding: Finding,
     /// The attributes that the commands mention, and `name`. None: they may look at others too.
     names: Vec<Text>,
+    /// No command changes the name of a rule.
+    names_stay: bool,
     /// The ends of the values that the commands seek in all attributes.
     endings: Vec<Text>,
+    /// The same with a double quote, which closes a literal.
+    closings: Vec<Text>,
 }
 
 /// By what the one pass is found that marks a rule, where its one command may be answered from a text (`is_answerable` of
@@ -64,10 +69,10 @@ pub(crate) struct OnePass<'p> {
 
 impl Model for RulePasses {
     ghost use Rattle.std.specs.Prelude.{◌≡◌, map};
-    ghost use Rattle.bz_label.specs.Endings.{ending};
+    ghost use Rattle.bz_label.specs.Endings.{ending, literal_end};
     ghost use Rattle.bz_engine.specs.Outcome as spec;
     ghost use Rattle.bz_engine.specs.private.Named.{all_named};
-    ghost use Rattle.bz_engine.specs.private.Sealed.{asked_names, asked_values};
+    ghost use Rattle.bz_engine.specs.private.Sealed.{asked_names, asked_values, leave_names};
 
     ghost Value = { spec.Script };
 
@@ -75,11 +80,14 @@ impl Model for RulePasses {
 
     ghost invariant = { λ s. (s.query ≡ spec.is_query s.passes) × (s.named ≡ all_named s.passes)
         × (s.names.items ≡ asked_names s.passes)
-        × (s.endings.items ≡ map ending (asked_values s.passes)) };
+        × (s.names_stay ≡ leave_names s.passes)
+        × (s.endings.items ≡ map ending (asked_values s.passes))
+        × (s.closings.items ≡ map literal_end (asked_values s.passes)) };
 }
 
 impl RulePasses {
     /// The passes in this order.
+    #[tactic(auto, using(crate::proofs::ScriptNames::closings_are))]
     pub(crate) fn new(
         alloc: Global,
         passes: Vec<Pass<Target, Command>>,
@@ -91,7 +99,9 @@ impl RulePasses {
         let query = is_query(passes.as_slice());
         let named = all_named(passes.as_slice());
         let endings = sought_endings(alloc, passes.as_slice())?;
+        let closings = closings_of(alloc, endings.as_slice())?;
         let names = asked_names(alloc, passes.as_slice(), endings.len())?;
+        let names_stay = leave_names(alloc, passes.as_slice())?;
         let may_be_known = named || !names.is_empty() || is_one_answerable(passes.as_slice());
         let finding = finding_of(passes.as_slice());
         let passes = Passes::new(alloc, passes)?;
@@ -102,7 +112,9 @@ impl RulePasses {
             may_be_known,
             finding,
             names,
+            names_stay,
             endings,
+            closings,
         })
     }
 
@@ -172,11 +184,17 @@ impl RulePasses {
         self.names.as_slice()
     }
 
-    /// The ends of the values that the commands seek in all attributes.
-    pub(crate) fn endings(&self) -> &[Text]
-        ensures { result.now ≡ map ending (asked_values self.now) }
+    /// What the script looks for in rules, beside names.
+    pub(crate) fn sought(&self) -> Sought<'_>
+        ensures alone { result.alone ≡ leave_names self.now }
+        ensures endings { result.endings.now ≡ map ending (asked_values self.now) }
+        ensures closings { result.closings.now ≡ map literal_end (asked_values self.now) }
     {
-        self.endings.as_slice()
+        Sought {
+            alone: self.names_stay,
+            endings: self.endings.as_slice(),
+            closings: self.closings.as_slice(),
+        }
     }
 }
 

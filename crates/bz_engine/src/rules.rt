@@ -71,6 +71,8 @@ impl<'a> Language for Rules<'a> {
         Ok(Entry::Failure(text))
     }
 
+    // By itself: the loops over passes and commands stay small.
+    #[inline(never)]
     fn apply(
         &self,
         command: &Command,

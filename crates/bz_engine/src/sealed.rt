@@ -9,7 +9,7 @@ ghost use Rattle.bz_passes.specs.Exchange.{Fits};
 ghost use Rattle.bz_engine.specs.private.Edits.{DoesNothing, IsScripted, run_of};
 ghost use Rattle.bz_engine.specs.private.Found.{HasItsSpans, IsFoundOn, IsRuleFound};
 ghost use Rattle.bz_engine.specs.private.NextChunks.{ScriptsFound};
-ghost use Rattle.bz_engine.specs.private.Sealed.{IsSealedRule, asked_names, is_asked_in};
+ghost use Rattle.bz_engine.specs.private.Sealed.{IsSealedRule, asked_names, is_asked_in, leave_names};
 
 use crate::canonical::Found;
 use crate::chunk::newlines;
@@ -155,14 +155,14 @@ fn sealed_rule<'t, 's: 't, 'f: 't>(
     requires rule { (line : ℕ) × IsRuleFound line found.now noted }
     ensures { IfOk result (λ made. IfSome made (λ stmt. (line : ℕ) (s : Statement)
         → IsRuleFound line found.now noted.entry → IsFoundOn script.entry.max_depth line found.now s
-        → IsSealedRule (is_asked_in (run_of script.entry)) s stmt)) }
+        → IsSealedRule (is_asked_in (run_of script.entry)) (leave_names script.entry.passes.now) s stmt)) }
 {
     let room = Room {
         alloc: script.alloc,
         bump: script.bump,
         max_depth: script.max_depth,
     };
-    let Some(row) = seal(room, noted.rule, script.passes.endings(), buffer)? else {
+    let Some(row) = seal(room, noted.rule, script.passes.sought(), buffer)? else {
         return Ok(None);
     };
     Ok(Some(StatementRow::new(script.bump, row, Some(noted.head))))

@@ -75,6 +75,8 @@ pub struct Session {
     failure: Option<Text>,
     /// The text of one chunk; used again for each.
     text: Vec<u8>,
+    /// Where it is noted what is known of one chunk; used again for each.
+    buffers: ChunkBuffers,
     /// The lists that are made of one chunk.
     bump: Bump,
 }
@@ -134,13 +136,13 @@ impl Session {
                 line: 1,
                 looks: Looks::new(),
                 spare: Spare::new(alloc),
-                buffers: ChunkBuffers::new(alloc),
                 lists: false,
             },
             ahead: Ahead::new(alloc),
             state: SessionState::Going,
             failure: None,
             text: Vec::new(alloc),
+            buffers: ChunkBuffers::new(alloc),
             bump: Bump::new(alloc),
         })
     }
@@ -160,12 +162,14 @@ impl Session {
             state: _,
             failure: _,
             text,
+            buffers,
             bump,
         } = self;
-        let buffers = progress.held().saturating_add(text.capacity());
+        let texts = progress.held().saturating_add(text.capacity());
         ahead
             .held()
-            .saturating_add(buffers)
+            .saturating_add(texts)
+            .saturating_add(buffers.held())
             .saturating_add(bump.allocated_bytes())
     }
 
@@ -349,7 +353,13 @@ impl Session {
         self.clear_lists();
         let options = self.options;
         let script = script_run(self.alloc, &self.bump, &self.home, &self.passes, options);
-        copy_canonical(&self.ahead, script, &mut self.progress, text)
+        copy_canonical(
+            &self.ahead,
+            script,
+            &mut self.progress,
+            &mut self.buffers,
+            text,
+        )
     }
 
     /// The lists of sealed rules are given up, if there are any.
@@ -468,7 +478,13 @@ impl Session {
         self.clear_lists();
         let options = self.options;
         let script = script_run(self.alloc, &self.bump, &self.home, &self.passes, options);
-        match copy_canonical(&self.ahead, script, &mut self.progress, text)? {
+        match copy_canonical(
+            &self.ahead,
+            script,
+            &mut self.progress,
+            &mut self.buffers,
+            text,
+        )? {
             Some(next) => Ok(Some(next)),
             None => self.read_and_edit(text),
         }
@@ -508,7 +524,13 @@ impl Session {
     {
         let options = self.options;
         let script = script_run(self.alloc, &self.bump, &self.home, &self.passes, options);
-        edit_bytes(script, &self.ahead.bytes()[..len], &mut self.progress, text)
+        edit_bytes(
+            script,
+            &self.ahead.bytes()[..len],
+            &mut self.progress,
+            &mut self.buffers,
+            text,
+        )
     }
 
     /// Writes the text of the chunk, which is then taken.

@@ -1,14 +1,16 @@
--- The value of a literal without backslashes and carriage returns stands in it, byte for byte.
-use Rattle.std.proofs.Common.{◌≡◌, ℕ, zero, suc, ◌+◌, ◌-◌, ◌==◌, List, [], ◌∷◌, ◌++◌, take, drop, length, map, Bool, true, false, Option, Some, None, if◌then◌else◌, refl, sym, ap, ◌∙◌}
-use Rattle.std.specs.Prelude.{bytes_eq, codes, option_map, option_and_then}
-use Rattle.std.specs.List.{list_any}
-use Rattle.std.proofs.lemmas.Bool.{or_parts}
-use Rattle.bz_token.specs.declared.scan_string.Opening.{Opening}
+-- The value of a literal without backslashes and carriage returns stands in it, byte for byte, with the closing quote after it.
+use Rattle.std.proofs.Common.{◌≡◌, ℕ, zero, suc, ◌==◌, ◌&&◌, List, [], ◌∷◌, ◌++◌, append_assoc, drop, length, map, take, take-append-drop, Bool, true, false, Option, Some, None, if◌then◌else◌, refl, sym, ap, ◌∙◌, inl, inr}
+use Rattle.std.specs.Prelude.{bytes_eq, codes, nat_eq, option_map, option_and_then}
+use Rattle.std.specs.List.{concat, list_any, starts_with}
+use Rattle.std.proofs.lemmas.Bool.{cases_Bool, or_parts}
+use Rattle.std.proofs.lemmas.Slice.Eq.{bytes_eq-Decides}
 use Rattle.bz_token.specs.Groups.{grouped_from}
-use Rattle.bz_token.specs.Strings.{escape_takes, inside, is_string, opening, quote_count, units}
+use Rattle.bz_token.specs.Strings.{is_quote}
 use Rattle.bz_token.proofs.CutStrings.{grouped_apart}
 use Rattle.bz_label.specs.Endings.{is_odd}
-use Rattle.bz_label.specs.Values.{content, values, value_after, value_of}
+use Rattle.bz_label.specs.Values.{value_of}
+use Rattle.bz_label.specs.private.ValueSteps.{content, is_newline, opened_value, takes, units, values}
+use Rattle.bz_label.proofs.ValueForms.{opened_other, opened_raw}
 
 -- it stands somewhere in the text
 pub record IsIn (part text : List ℕ) : Type 0 where
@@ -19,76 +21,104 @@ pub record IsIn (part text : List ℕ) : Type 0 where
 abbrev alone : ℕ → List ℕ
 alone b = b ∷ []
 
-taken_apart : (b x : ℕ) → (b == 92) ≡ false → escape_takes (b ∷ []) x ≡ false
-taken_apart b x plain = rw plain refl
+taken_apart : (b x : ℕ) → (b == 92) ≡ false → (b == 13) ≡ false → takes (b ∷ []) x ≡ false
+taken_apart b x slash return = rw (slash, return) refl
 
-units_from : (b : ℕ) (bs : List ℕ) → list_any is_odd (b ∷ bs) ≡ false → grouped_from escape_takes (b ∷ []) bs ≡ map alone (b ∷ bs)
+units_from : (b : ℕ) (bs : List ℕ) → list_any is_odd (b ∷ bs) ≡ false → grouped_from takes (b ∷ []) bs ≡ map alone (b ∷ bs)
 units_from b [] none = refl
 units_from b (x ∷ xs) none =
     let both = or_parts (is_odd b) (list_any is_odd (x ∷ xs)) none in
-    grouped_apart escape_takes (b ∷ []) x xs (taken_apart b x (or_parts (b == 92) (b == 13) both.0).0) ∙ ap (λ us. (b ∷ []) ∷ us) (units_from x xs both.1)
+    let plain = or_parts (b == 92) (b == 13) both.0 in
+    grouped_apart takes (b ∷ []) x xs (taken_apart b x plain.0 plain.1) ∙ ap (λ us. (b ∷ []) ∷ us) (units_from x xs both.1)
 
-pub units_plain : (bs : List ℕ) → list_any is_odd bs ≡ false → units bs ≡ map alone bs
+units_plain : (bs : List ℕ) → list_any is_odd bs ≡ false → units bs ≡ map alone bs
 units_plain [] none = refl
 units_plain (b ∷ bs) none = units_from b bs none
+
+joined : (bs : List ℕ) → concat (map alone bs) ≡ bs
+joined [] = refl
+joined (b ∷ bs) = ap (λ (xs : List ℕ). b ∷ xs) (joined bs)
 
 some_is : {A : Type 0} (x y : A) → Some x ≡ Some y → x ≡ y
 some_is x y e = cc
 
-mapped : (b : ℕ) (o : Option (List ℕ)) (v : List ℕ) → option_map (λ bs. b ∷ bs) o ≡ Some v → (w : List ℕ) × (o ≡ Some w) × (v ≡ b ∷ w)
-mapped b None v is = absurd cc
-mapped b (Some w) v is = (w, refl, sym (some_is (b ∷ w) v is))
+-- the value, and the quotes that close it
 
-values_plain : (raw : Bool) (bs v : List ℕ) → list_any is_odd bs ≡ false → values raw (map alone bs) ≡ Some v → v ≡ bs
-values_plain raw [] v none is = sym (some_is [] v is)
-values_plain raw (b ∷ bs) v none is =
-    let both = or_parts (is_odd b) (list_any is_odd bs) none in
-    let plain : (b == 13) ≡ false = (or_parts (b == 92) (b == 13) both.0).1 in
-    let more = mapped b (values raw (map alone bs)) v (rw plain at is) in
-    more.2 ∙ ap (λ (xs : List ℕ). b ∷ xs) (values_plain raw bs more.0 both.1 more.1)
-
-taken_alone : (n : ℕ) (bs : List ℕ) → take n (map alone bs) ≡ map alone (take n bs)
-taken_alone zero bs = refl
-taken_alone (suc n) [] = refl
-taken_alone (suc n) (b ∷ bs) = ap (λ us. (b ∷ []) ∷ us) (taken_alone n bs)
-
-none_dropped : (n : ℕ) (bs : List ℕ) → list_any is_odd bs ≡ false → list_any is_odd (drop n bs) ≡ false
-none_dropped zero bs none = none
-none_dropped (suc n) [] none = none
-none_dropped (suc n) (b ∷ bs) none = none_dropped n bs (or_parts (is_odd b) (list_any is_odd bs) none).1
-
-none_taken : (n : ℕ) (bs : List ℕ) → list_any is_odd bs ≡ false → list_any is_odd (take n bs) ≡ false
-none_taken zero bs none = refl
-none_taken (suc n) [] none = refl
-none_taken (suc n) (b ∷ bs) none = let both = or_parts (is_odd b) (list_any is_odd bs) none in rw both.0 (none_taken n bs both.1)
-
-both_parts : (n : ℕ) (bs : List ℕ) → bs ≡ take n bs ++ drop n bs
-both_parts zero bs = refl
-both_parts (suc n) [] = refl
-both_parts (suc n) (b ∷ bs) = ap (λ (xs : List ℕ). b ∷ xs) (both_parts n bs)
-
-pub value_stands : (text v : List ℕ) → list_any is_odd text ≡ false → value_of text ≡ Some v → IsIn v text
-value_stands text v none is = by (opening text) is
+one_more : (raw : Bool) (quotes : List ℕ) (b : ℕ) (bs v : List ℕ) → (b == 92) ≡ false → ((w : List ℕ) → option_and_then (values raw) (content quotes (map alone bs)) ≡ Some w → bs ≡ w ++ quotes)
+    → option_and_then (values raw) (content quotes (map alone (b ∷ bs))) ≡ Some v → b ∷ bs ≡ v ++ quotes
+one_more raw quotes b bs v plain more is = by (starts_with nat_eq (concat (map alone (b ∷ bs))) quotes) (bytes_eq (concat (map alone (b ∷ bs))) quotes) refl (length quotes == 1 && is_newline (b ∷ [])) is
   where
-    inner : (k n : ℕ) (raw : Bool) → values raw (take n (units (drop k text))) ≡ Some v → IsIn v text
-    inner k n raw is =
-        let bs = drop k text in
-        let clean = none_dropped k text none in
-        let so = values_plain raw (take n bs) v (none_taken n bs clean) (ap (values raw) (sym (ap (take n) (units_plain bs clean) ∙ taken_alone n bs)) ∙ is) in
-        record { front = take k text; back = drop n bs; is = both_parts k text ∙ ap (λ (t : List ℕ). take k text ++ t) (both_parts n bs ∙ ap (λ (t : List ℕ). t ++ drop n bs) (sym so)) }
+    inside : (o : Option (List (List ℕ))) → content quotes (map alone bs) ≡ o → option_and_then (values raw) (option_map (λ inner. (b ∷ []) ∷ inner) o) ≡ Some v → b ∷ bs ≡ v ++ quotes
+    inside None o_is is = absurd cc
+    inside (Some inner) o_is is = of (values raw inner) refl (rw plain at is)
+      where
+        of : (o : Option (List ℕ)) → values raw inner ≡ o → option_map (λ bs. b ∷ bs) o ≡ Some v → b ∷ bs ≡ v ++ quotes
+        of None w_is is = absurd cc
+        of (Some w) w_is is = ap (λ (xs : List ℕ). b ∷ xs) (more w (ap (option_and_then (values raw)) o_is ∙ w_is)) ∙ ap (λ (xs : List ℕ). xs ++ quotes) (some_is (b ∷ w) v is)
 
-    raw_after : (b : Bool) (k n : ℕ) → (if b then values true (take n (units (drop k text))) else None) ≡ Some v → IsIn v text
-    raw_after true k n is = inner k n true is
-    raw_after false k n is = absurd cc
+    by : (starts all : Bool) → bytes_eq (concat (map alone (b ∷ bs))) quotes ≡ all → (line : Bool)
+        → option_and_then (values raw) (if starts then (if all then Some [] else None) else (if line then None else option_map (λ inner. (b ∷ []) ∷ inner) (content quotes (map alone bs)))) ≡ Some v → b ∷ bs ≡ v ++ quotes
+    by true true same line is =
+        sym (joined (b ∷ bs)) ∙ (bytes_eq-Decides (concat (map alone (b ∷ bs))) quotes).0 same ∙ ap (λ (xs : List ℕ). xs ++ quotes) (some_is [] v is)
+    by true false same line is = absurd cc
+    by false all same true is = absurd cc
+    by false all same false is = inside (content quotes (map alone bs)) refl is
 
-    after : (b c : Bool) (k n : ℕ) → (if b then values false (take n (units (drop k text))) else (if c then values true (take n (units (drop k text))) else None)) ≡ Some v → IsIn v text
-    after true c k n is = inner k n false is
-    after false c k n is = raw_after c k n is
+closed : (raw : Bool) (quotes bs v : List ℕ) → list_any is_odd bs ≡ false → option_and_then (values raw) (content quotes (map alone bs)) ≡ Some v → bs ≡ v ++ quotes
+closed raw quotes [] v none is = absurd cc
+closed raw quotes (b ∷ bs) v none is =
+    let both = or_parts (is_odd b) (list_any is_odd bs) none in
+    one_more raw quotes b bs v (or_parts (b == 92) (b == 13) both.0).0 (λ w given. closed raw quotes bs w both.1 given) is
 
-    whole : (b : Bool) (o : Opening) → (if b then value_after (take o.prefix text) (content o text) else None) ≡ Some v → IsIn v text
-    whole true o is = after (bytes_eq (take o.prefix text) []) (bytes_eq (take o.prefix text) (codes "r")) (o.prefix + quote_count o.quotes.long) (length (inside o text) - quote_count o.quotes.long) is
-    whole false o is = absurd cc
+none_after : (n : ℕ) (bs : List ℕ) → list_any is_odd bs ≡ false → list_any is_odd (drop n bs) ≡ false
+none_after zero bs none = none
+none_after (suc n) [] none = none
+none_after (suc n) (b ∷ bs) none = none_after n bs (or_parts (is_odd b) (list_any is_odd bs) none).1
 
-    by : (o : Option Opening) → option_and_then (λ o. if is_string text then value_after (take o.prefix text) (content o text) else None) o ≡ Some v → IsIn v text
-    by None is = absurd cc
-    by (Some o) is = whole (is_string text) o is
+-- a literal whose value is this one: it stands there with a quote after it
+pub record IsClosed (v text : List ℕ) : Type 0 where
+  pub quote : ℕ
+  pub is_quote : is_quote quote ≡ true
+  pub stands : IsIn (v ++ quote ∷ []) text
+
+closed_by : (raw : Bool) (q : ℕ) (more text v : List ℕ) → is_quote q ≡ true → list_any is_odd text ≡ false → option_and_then (values raw) (content (q ∷ more) (units (drop (length (q ∷ more)) text))) ≡ Some v → IsClosed v text
+closed_by raw q more text v quote none is =
+    let rest : List ℕ = drop (length (q ∷ more)) text in
+    let plain : list_any is_odd rest ≡ false = none_after (length (q ∷ more)) text none in
+    let ends : rest ≡ v ++ (q ∷ more) = closed raw (q ∷ more) rest v plain (ap (λ us. option_and_then (values raw) (content (q ∷ more) us)) (sym (units_plain rest plain)) ∙ is) in
+    record {
+      quote = q;
+      is_quote = quote;
+      stands = record {
+        front = take (length (q ∷ more)) text;
+        back = more;
+        is = sym (take-append-drop (length (q ∷ more)) text) ∙ ap (λ (t : List ℕ). take (length (q ∷ more)) text ++ t) (ends ∙ sym (append_assoc v (q ∷ []) more));
+      };
+    }
+
+opened : (raw : Bool) (text v : List ℕ) → list_any is_odd text ≡ false → opened_value raw text ≡ Some v → IsClosed v text
+opened raw [] v none is = absurd cc
+opened raw (q ∷ bs) v none is = by (is_quote q) refl (starts_with nat_eq bs (q ∷ q ∷ [])) is
+  where
+    by : (quote : Bool) → is_quote q ≡ quote → (long : Bool)
+        → (if quote then option_and_then (values raw) (content (if long then q ∷ q ∷ q ∷ [] else q ∷ []) (units (drop (length (if long then q ∷ q ∷ q ∷ [] else q ∷ [])) (q ∷ bs)))) else None) ≡ Some v → IsClosed v (q ∷ bs)
+    by false other long is = absurd cc
+    by true quote true is = closed_by raw q (q ∷ q ∷ []) (q ∷ bs) v quote none is
+    by true quote false is = closed_by raw q [] (q ∷ bs) v quote none is
+
+after_prefix : (text v : List ℕ) → IsClosed v (drop 1 text) → IsClosed v text
+after_prefix text v c = record {
+  quote = c.quote;
+  is_quote = c.is_quote;
+  stands = record {
+    front = take 1 text ++ c.stands.front;
+    back = c.stands.back;
+    is = sym (take-append-drop 1 text) ∙ ap (λ (t : List ℕ). take 1 text ++ t) c.stands.is ∙ sym (append_assoc (take 1 text) c.stands.front ((v ++ c.quote ∷ []) ++ c.stands.back));
+  };
+}
+
+pub value_closed : (text v : List ℕ) → list_any is_odd text ≡ false → value_of text ≡ Some v → IsClosed v text
+value_closed text v none is = elim (cases_Bool (bytes_eq (take 1 text) (codes "r"))) [
+  | inl raw ↦ after_prefix text v (opened true (drop 1 text) v (none_after 1 text none) (opened_raw text (drop 1 text) raw refl ∙ is))
+  | inr other ↦ opened false text v none (opened_other text other ∙ is)
+]

@@ -6,7 +6,7 @@ use Rattle.std.proofs.Math.Seq.{take-append_seam}
 use Rattle.std.proofs.lemmas.Bool.{cases_Bool, false≢true, or_cases}
 use Rattle.std.proofs.lemmas.List.Folds.{list_any-append}
 use Rattle.std.proofs.lemmas.Slice.Eq.{bytes_eq-Decides}
-use Rattle.bz_label.specs.Endings.{ending, is_in, is_mark, is_odd}
+use Rattle.bz_label.specs.Endings.{ending, is_in, is_mark}
 use Rattle.bz_label.proofs.PlainValues.{IsIn}
 
 pub or_later : (a b : Bool) → b ≡ true → (a || b) ≡ true
@@ -47,11 +47,11 @@ in_part inner part text h k = record {
   is = k.is ∙ ap (λ (t : List ℕ). k.front ++ (t ++ k.back)) h.is ∙ apart k.front h.front inner h.back k.back;
 }
 
-pub none_odd : (part text : List ℕ) → IsIn part text → list_any is_odd text ≡ false → list_any is_odd part ≡ false
-none_odd part text h none = elim (cases_Bool (list_any is_odd part)) [
+pub none_in : (p : ℕ → Bool) (part text : List ℕ) → IsIn part text → list_any p text ≡ false → list_any p part ≡ false
+none_in p part text h none = elim (cases_Bool (list_any p part)) [
   | inl some ↦
-      let inner : list_any is_odd (part ++ h.back) ≡ true = list_any-append is_odd part h.back ∙ ap (λ b. b || list_any is_odd h.back) some in
-      let all : list_any is_odd text ≡ true = ap (list_any is_odd) h.is ∙ list_any-append is_odd h.front (part ++ h.back) ∙ or_later (list_any is_odd h.front) (list_any is_odd (part ++ h.back)) inner in
+      let inner : list_any p (part ++ h.back) ≡ true = list_any-append p part h.back ∙ ap (λ b. b || list_any p h.back) some in
+      let all : list_any p text ≡ true = ap (list_any p) h.is ∙ list_any-append p h.front (part ++ h.back) ∙ or_later (list_any p h.front) (list_any p (part ++ h.back)) inner in
       absurd (false≢true (sym none ∙ all))
   | inr gone ↦ gone
 ]
@@ -60,12 +60,22 @@ none_odd part text h none = elim (cases_Bool (list_any is_odd part)) [
 pub all_in : (text : List ℕ) → IsIn text text
 all_in text = record { front = []; back = []; is = sym (append-nil text) }
 
--- the end stands in the text
-pub ending_in : (text : List ℕ) → IsIn (ending text) text
-ending_in [] = record { front = []; back = []; is = refl }
-ending_in (b ∷ bs) = by (list_any is_mark bs) (is_mark b) (ending_in bs)
+-- the end stands last in the text
+ends_in : (text : List ℕ) → (front : List ℕ) × (text ≡ front ++ ending text)
+ends_in [] = ([], refl)
+ends_in (b ∷ bs) = by (list_any is_mark bs) (is_mark b) (ends_in bs)
   where
-    by : (some mark : Bool) → IsIn (ending bs) bs → IsIn (if some then ending bs else (if mark then bs else b ∷ bs)) (b ∷ bs)
-    by true mark h = record { front = b ∷ h.front; back = h.back; is = ap (λ (t : List ℕ). b ∷ t) h.is }
-    by false true h = record { front = b ∷ []; back = []; is = ap (λ (t : List ℕ). b ∷ t) (sym (append-nil bs)) }
-    by false false h = all_in (b ∷ bs)
+    by : (some mark : Bool) → (front : List ℕ) × (bs ≡ front ++ ending bs) → (front : List ℕ) × (b ∷ bs ≡ front ++ (if some then ending bs else (if mark then bs else b ∷ bs)))
+    by true mark h = (b ∷ h.0, ap (λ (t : List ℕ). b ∷ t) h.1)
+    by false true h = (b ∷ [], refl)
+    by false false h = ([], refl)
+
+pub ending_in : (text : List ℕ) → IsIn (ending text) text
+ending_in text = let at = ends_in text in record { front = at.0; back = []; is = at.1 ∙ ap (λ (t : List ℕ). at.0 ++ t) (sym (append-nil (ending text))) }
+
+pub ending_before : (text : List ℕ) (q : ℕ) → IsIn (ending text ++ q ∷ []) (text ++ q ∷ [])
+ending_before text q = let at = ends_in text in record {
+  front = at.0;
+  back = [];
+  is = ap (λ (t : List ℕ). t ++ q ∷ []) at.1 ∙ append_assoc at.0 (ending text) (q ∷ []) ∙ ap (λ (t : List ℕ). at.0 ++ t) (sym (append-nil (ending text ++ q ∷ [])));
+}

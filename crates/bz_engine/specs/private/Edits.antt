@@ -1,5 +1,6 @@
 -- What the script on one chunk answers, for private clauses.
 use Rattle.std.specs.Prelude.{◌≡◌, ℕ, ◌+◌, ◌≤◌, true, false, IfNone, IfSome, if◌then◌else◌, List, [], ◌∷◌, ◌++◌, length, Option, Some, Ok, Err, option_to_list, take}
+use Rattle.std.specs.List.{flat_map}
 use Rattle.bz_tree.specs.Tree.{Statement}
 use Rattle.bz_engine.specs.declared.edit.ScriptRun.{ScriptRun}
 use Rattle.bz_engine.specs.declared.edit.Edited.{Edited}
@@ -9,7 +10,9 @@ use Rattle.bz_engine.specs.declared.edit.Scripted.TheVariants as scripted
 use Rattle.bz_engine.specs.declared.report.SyntaxFault.{SyntaxFault}
 use Rattle.bz_engine.specs.File.{IsAnswerOf}
 use Rattle.bz_passes.specs.Passes.{Slot}
-use Rattle.bz_passes.specs.Exchange.{Fits, IsLeftBy, slot_after}
+use Rattle.bz_passes.specs.Entries.{failure_text}
+use Rattle.bz_passes.specs.Exchange.{Fits, IsLeftBy, Kept, log_alone, slot_after}
+use Rattle.bz_passes.specs.declared.entry.Entry.{Entry}
 use Rattle.bz_engine.specs.Language.{meaning}
 use Rattle.bz_engine.specs.Failing.{changes, fails_on}
 use Rattle.bz_engine.specs.Outcome.{Run, is_query, text_after, failures, some_failure}
@@ -73,22 +76,30 @@ pub record IsLaidOut (run : Run) (s : Statement) (old new : Progress) (before af
   pub text : after ≡ before ++ (if is_query run.passes then [] else text_following old.last (slot_after (meaning run.home) run.passes (Some s) ∷ []))
   pub none_fails : run.keep_going ≡ false → old.failed ≡ false → new.failed ≡ false
 
+-- the message of the first failure that was told, by pass and command
+abbrev pub first_failed : List (Kept Entry) → List (List ℕ)
+first_failed kept = take 1 (flat_map failure_text (log_alone kept))
+
 -- or the run ends at it.
-pub record IsEnded (run : Run) (s : Statement) (message : Option (List ℕ)) (old new : Progress) (before after : List ℕ) : Type 0 where
+pub record IsEnded (run : Run) (s : Statement) (old new : Progress) (before after : List ℕ) : Type 0 where
   pub ends : run.keep_going ≡ false
   pub fails : old.failed ≡ false → some_failure run.home run.passes (s ∷ []) ≡ true
   pub message_is : old.failed ≡ false → (slots : List (Slot Statement))
       → IsLeftBy (meaning run.home) (changes run.home) (fails_on run.home) run.passes slots old.kept old.changed old.failed
-      → option_to_list message ≡ take 1 (failures run.home run.passes (s ∷ []))
+      → first_failed new.kept ≡ take 1 (failures run.home run.passes (s ∷ []))
   pub changed : new.changed ≡ old.changed
   pub line : new.line ≡ old.line
   pub nothing : after ≡ before
 
 abbrev pub IsScripted : Run → Statement → Progress → Progress → List ℕ → List ℕ → Scripted → Type 0
 IsScripted run s old new before after scripted.Done = IsLaidOut run s old new before after
-IsScripted run s old new before after (scripted.Failed message) = IsEnded run s message old new before after
+IsScripted run s old new before after scripted.Failed = IsEnded run s old new before after
 
--- what the script made of the statement's chunk
-abbrev pub edited_of : Scripted → Edited
-edited_of scripted.Done = Done
-edited_of (scripted.Failed message) = Failed message
+-- a failure ends the run, where this is kept
+abbrev pub IsFailedBy : List (Kept Entry) → Edited → Type 0
+IsFailedBy kept edited = (message : Option (List ℕ)) × ((edited ≡ Failed message) × (option_to_list message ≡ first_failed kept))
+
+-- what the script made of the statement's chunk, where this is kept
+abbrev pub IsEditedOf : List (Kept Entry) → Scripted → Edited → Type 0
+IsEditedOf kept scripted.Done edited = edited ≡ Done
+IsEditedOf kept scripted.Failed edited = IsFailedBy kept edited

@@ -10,7 +10,7 @@ use Rattle.bz_engine.specs.Progress.{Progress}
 use Rattle.bz_engine.specs.SessionValue.{SessionValue, run_in}
 use Rattle.bz_engine.specs.declared.canonical.Found.{Found}
 use Rattle.bz_engine.specs.declared.edit.Scripted.{Scripted}
-use Rattle.bz_engine.specs.private.Edits.{DoesNothing, EditsChunk, IsLaidOut, IsScripted, edited_of}
+use Rattle.bz_engine.specs.private.Edits.{DoesNothing, EditsChunk, IsEditedOf, IsLaidOut, IsScripted}
 use Rattle.bz_engine.specs.private.Found.{IsFoundOn}
 use Rattle.bz_engine.specs.declared.next_chunk.NextChunk.{NextChunk}
 
@@ -43,7 +43,7 @@ pub record IsKnownEdited (run : Run) (found : Found) (old new : Progress) (befor
   pub is : (s : Statement) → IsFoundOn run.max_depth old.line found s → IsScripted run s old mid before after scripted
   pub passed : new ≡ record mid { line = line_at mid.line found.chunk.chunk.now }
   pub len_is : next.len ≡ length found.chunk.chunk.now
-  pub edited_is : next.edited ≡ edited_of scripted
+  pub edited_is : IsEditedOf new.kept scripted next.edited
 
 -- the first chunk ahead of a session is done
 abbrev pub IsNextEdited : SessionValue → SessionValue → List ℕ → List ℕ → NextChunk → Type 0

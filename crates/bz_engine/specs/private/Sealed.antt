@@ -1,13 +1,15 @@
 -- The attributes that a script mentions, and rules of which other arguments are sealed, for private clauses.
 -- Begin with `asked_names` and `IsSealedRule`.
-use Rattle.std.specs.Prelude.{◌≡◌, ◌≤◌, ◌⊎◌, ℕ, Bool, false, true, ◌&&◌, if◌then◌else◌, List, [], ◌∷◌, ◌++◌, length, Option, None, Some, codes, nat_le, option_and_then, unwrap_or}
-use Rattle.std.specs.List.{flat_map, list_all}
-use Rattle.bz_token.specs.Common.{map_or, is_one_of}
+use Rattle.std.specs.Prelude.{◌≡◌, ◌≤◌, ◌⊎◌, ◌||◌, not, ℕ, Bool, false, true, ◌&&◌, if◌then◌else◌, List, [], ◌∷◌, ◌++◌, length, Option, None, Some, codes, nat_le, option_and_then, unwrap_or}
+use Rattle.std.specs.List.{flat_map, list_all, list_any}
+use Rattle.bz_token.specs.Common.{is_empty, is_one_of, map_or}
 use Rattle.bz_tree.specs.Tree.{Segment, Statement}
 use Rattle.bz_canonical.specs.SealedRules.{are_alike}
 use Rattle.bz_passes.specs.Passes.{Pass}
 use Rattle.bz_label.specs.Labels.{Target}
-use Rattle.bz_rule.specs.Commands.{Command}
+use Rattle.bz_attribute.specs.Lists.{parts}
+use Rattle.bz_attribute.specs.Rules.{is_named, rule_of, value}
+use Rattle.bz_rule.specs.Commands.{Command, is_print}
 use Rattle.bz_rule.specs.Sealed.{IsSealed, attributes_of, is_asked_for, values_sought}
 use Rattle.bz_engine.specs.Outcome.{Run, Script}
 
@@ -51,12 +53,29 @@ covers names passes = is_one_of names (codes "name") && list_all (λ (p : Pass T
 abbrev pub HasLinesOf : List Segment → Segment → Type 0
 HasLinesOf run t = are_alike run t ≡ true
 
+-- The command leaves each argument `name` that has no list as it is: it prints, or mentions no such attribute.
+abbrev pub leaves_name : Command → Bool
+leaves_name c = is_print c || map_or false (λ names. not (is_one_of names (codes "name"))) (attributes_of c)
+
+-- each command of the script does
+abbrev pub leave_names : Script → Bool
+leave_names passes = list_all (λ (p : Pass Target Command). list_all leaves_name p.commands) passes
+
+-- an argument `name` that has no list
+abbrev pub is_plain_name : Segment → Bool
+is_plain_name a = is_named (codes "name") a && is_empty (parts (value a))
+
+-- the statement is a rule with such an argument
+abbrev pub has_plain_name : Statement → Bool
+has_plain_name s = map_or false (λ r. list_any is_plain_name r.args) (rule_of s.nodes)
+
 -- none, or so many that the call stays on lines of its own, whatever commands drop
 abbrev pub IsNoneOrMore : ℕ → Type 0
 IsNoneOrMore count = (count ≡ 0) ⊎ (2 ≤ count)
 
--- A rule, and the same rule where arguments are sealed that are not asked for.
-pub record IsSealedRule (asks : Segment → Bool) (s t : Statement) : Type 0 where
+-- A rule, and the same rule where arguments are sealed that are not asked for: one alone only where the name stays beside it.
+pub record IsSealedRule (asks : Segment → Bool) (stays : Bool) (s t : Statement) : Type 0 where
   pub count : ℕ
-  pub enough : IsNoneOrMore count
+  pub enough : (stays ≡ true) ⊎ IsNoneOrMore count
+  pub named : has_plain_name t ≡ true
   pub sealed : IsSealed HasLinesOf asks count s t

@@ -12,6 +12,6 @@ pub returns : goal.returns
 returns c = IfOk-weaker c.seal_unasked.result _ _ (λ known h. IfSome_then known h (λ row told names r stands is first last.
     let found = c.args.found in
     let marked_is = rw c.in-Some.is at c.in_ok-spans.ensures in
-    let spanned = marked_spanned c.args.room.max_depth names r stands found.chunk.now found.rule.written.now found.rule.spans.now c.args.endings.now is in
+    let spanned = marked_spanned c.args.room.max_depth names r stands found.chunk.now found.rule.written.now found.rule.spans.now c.args.sought.endings.now c.args.sought.closings.now is in
     let row_is = told names r stands (subst (λ (spans : List ArgumentSpan). IsSpannedIn c.args.room.max_depth names r stands found.chunk.now found.rule.written.now spans) (sym marked_is) spanned) first last in
-    subst (λ (spans : List ArgumentSpan). IsRowOf (statement_of (sealed_rule (are_shown (drop 1 spans)) r)) row) marked_is row_is)) c.seal_unasked.ensures
+    subst (λ (spans : List ArgumentSpan). IsRowOf (statement_of (sealed_rule (are_shown c.args.sought.alone (drop 1 spans)) r)) row) marked_is row_is)) c.seal_unasked.ensures

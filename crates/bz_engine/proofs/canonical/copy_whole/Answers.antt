@@ -1,20 +1,35 @@
-use Rattle.std.proofs.Common.{◌≡◌, arith, length, subst, sym}
-use Rattle.std.specs.Prelude.{Option, IfSome, option_map}
-use Rattle.bz_canonical.specs.Canonical.{IsCanonical}
-use Rattle.bz_engine.specs.declared.canonical.Found.{Found}
-use Rattle.bz_engine.specs.private.Found.{HasItsSpans}
+use Rattle.std.proofs.Common.{◌≡◌, List, ◌∙◌, arith, length, refl, subst, sym}
+use Rattle.std.specs.Prelude.{Option, IfSome}
+use Rattle.bz_canonical.specs.declared.chunk.CanonicalChunk.{CanonicalChunk}
+use Rattle.bz_canonical.specs.declared.spans.ArgumentSpan.{ArgumentSpan}
 use Rattle.bz_engine.specs.private.Edits.{EditsWhole, run_of}
-use Rattle.bz_engine.proofs.CanonicalChunks.{whole_known}
+use Rattle.bz_engine.proofs.CanonicalChunks.{AreNotedSpans, IsKnownIn, spans_read, whole_known}
 use Rattle.bz_engine.proofs.canonical.copy_whole.Goals as goal
+
+pub copy_known-requires-clause-spans : goal.copy_known-requires-clause-spans
+copy_known-requires-clause-spans c =
+    let depth = c.args.script.max_depth in
+    let passes = c.args.script.passes.now in
+    let spans : List ArgumentSpan = c.read_canonical.new.spans.items in
+    let told = c.found_with-found.ensures in
+    spans_read depth passes c.args.chunk.now c.in-Some.known spans c.found_with-found.result told.chunk told.place (told.spans ∙ c.as_slice.ensures.value)
+    (subst (λ (o : Option CanonicalChunk). IfSome o (IsKnownIn depth c.args.chunk.now)) c.in-Some.is c.in_ok-known.ensures.chunk)
+    (subst (λ (o : Option CanonicalChunk). IfSome o (AreNotedSpans depth passes spans)) c.in-Some.is c.in_ok-known.ensures.spans)
 
 pub returns-in_ok-next-in-Some : goal.returns-in_ok-next-in-Some
 returns-in_ok-next-in-Some c =
-    let found = c.in-Some.found in
-    let known = c.in_ok-next-in-Some.ensures in
-    let size : length found.chunk.chunk.now ≡ length c.args.chunk.now = grind (arith, c.if-found-chunk.true) in
-    let canonical = subst (λ (o : Option Found). IfSome o (λ f. IsCanonical c.args.script.max_depth f.chunk.class (option_map (λ name. name.now) f.chunk.name) (option_map (λ kind. kind.now) f.chunk.kind)
-    f.chunk.chunk.now f.chunk.written.now c.args.chunk.now)) c.in-Some.is c.in_ok-found.ensures.canonical in
-    let its = subst (λ (o : Option Found). IfSome o (HasItsSpans c.args.script.max_depth c.args.script.passes.now)) c.in-Some.is c.in_ok-found.ensures.spans in
-    subst (EditsWhole (run_of c.args.script) c.args.chunk.now c.args.progress.now c.give_back_buffers.new.self c.args.text.now.items c.copy_known.new.text.items) (sym c.edited_in.ensures)
-    (whole_known (run_of c.args.script) found c.args.chunk.now c.args.progress.now c.take_buffers-buffers.new.self c.copy_known.new.progress c.give_back_buffers.new.self
-    c.args.text.now.items c.copy_known.new.text.items c.in_ok-next-in-Some.next size canonical its c.take_buffers-buffers.ensures c.give_back_buffers.ensures known.fits known.chunk known.none)
+    let depth = c.args.script.max_depth in
+    let passes = c.args.script.passes.now in
+    let spans : List ArgumentSpan = c.read_canonical.new.spans.items in
+    let found = c.found_with-found.result in
+    let told = c.found_with-found.ensures in
+    let done = c.in_ok-next-in-Some.ensures in
+    let known = subst (λ (o : Option CanonicalChunk). IfSome o (IsKnownIn depth c.args.chunk.now)) c.in-Some.is c.in_ok-known.ensures.chunk in
+    let noted = subst (λ (o : Option CanonicalChunk). IfSome o (AreNotedSpans depth passes spans)) c.in-Some.is c.in_ok-known.ensures.spans in
+    let its = spans_read depth passes c.args.chunk.now c.in-Some.known spans found told.chunk told.place (told.spans ∙ c.as_slice.ensures.value) known noted in
+    let whole : length c.in-Some.known.chunk.now ≡ length c.args.chunk.now = grind (arith, c.if-known-chunk.true) in
+    let size = subst (λ (k : CanonicalChunk). length k.chunk.now ≡ length c.args.chunk.now) (sym told.chunk) whole in
+    let canonical = subst (IsKnownIn depth c.args.chunk.now) (sym told.chunk) known in
+    subst (EditsWhole (run_of c.args.script) c.args.chunk.now c.args.progress.now c.copy_known.new.progress c.args.text.now.items c.copy_known.new.text.items) (sym c.edited_in.ensures)
+    (whole_known (run_of c.args.script) found c.args.chunk.now c.args.progress.now c.args.progress.now c.copy_known.new.progress c.copy_known.new.progress
+    c.args.text.now.items c.copy_known.new.text.items c.in_ok-next-in-Some.next size canonical its refl refl done.fits done.chunk done.none)

@@ -1,8 +1,8 @@
-use Rattle.std.proofs.Common.{◌∙◌, ap, sym, subst}
+use Rattle.std.proofs.Common.{◌∙◌, ap, subst}
 use Rattle.std.specs.Prelude.{Ok}
 use Rattle.bz_token.specs.Places.{line_at}
 use Rattle.bz_engine.specs.private.ChunkRead.{IsReadAs}
-use Rattle.bz_engine.specs.private.Edits.{IsEdited, run_of}
+use Rattle.bz_engine.specs.private.Edits.{run_of}
 use Rattle.bz_engine.proofs.ChunkEdits.{blank_done, scripted_edited}
 use Rattle.bz_engine.proofs.edit.edit_chunk.Goals as goal
 
@@ -27,7 +27,6 @@ returns-clause-edited c cs statements kept =
     let before = c.args.text.now.items in
     let after = c.edit_row.new.text.items in
     let row = subst (λ o. IsReadAs depth old.line chunk (Ok o)) c.in-Some.is (subst (IsReadAs depth old.line chunk) c.in-Ok.is c.requires.read) in
-    subst (IsEdited run cs statements chunk old _ before after) (sym c.edited_of.ensures)
-    (scripted_edited run cs statements chunk row.statement old mid _ before after c.in_ok-scripted.scripted
+    scripted_edited run cs statements chunk row.statement old mid _ before after c.in_ok-scripted.scripted c.in_ok-edited.edited
     kept (c.utf8.chunk, row.read) (c.in_ok-scripted.ensures.scripted row.statement row.of_row)
-    (c.pass_lines-2.ensures ∙ ap (λ bytes. record mid { line = line_at mid.line bytes }) c.as_bytes-2.ensures.value))
+    (c.pass_lines-2.ensures ∙ ap (λ bytes. record mid { line = line_at mid.line bytes }) c.as_bytes-2.ensures.value) c.in_ok-edited.ensures

@@ -7,7 +7,7 @@ use Rattle.bz_engine.proofs.sealed.edit_noted.Goals as goal
 
 pub edit_if_made-requires-clause-written : goal.edit_if_made-requires-clause-written
 edit_if_made-requires-clause-written c =
-    made_written (run_of c.args.script) c.args.found.now c.args.noted c.args.progress.now.line c.in_ok-made.made c.requires.spans c.requires.rule c.in_ok-made.ensures
+    made_written (run_of c.args.script) c.args.found.now c.args.noted c.args.progress.now.line c.in_ok-made.made c.requires.names c.requires.spans c.requires.rule c.in_ok-made.ensures
 
 pub returns : goal.returns
 returns c =
