@@ -157,7 +157,7 @@ fn seal_unasked<'a>(
     if let Some(row) = row_of_lists(room, found, false)? {
         return Ok(Some(row));
     }
-    // Most of the rule would be read.
+    // By their tokens the others cost as much as the rule.
     if sealed == 1 {
         return Ok(None);
     }

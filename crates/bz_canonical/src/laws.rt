@@ -9,7 +9,8 @@ ghost use Rattle.bz_canonical.specs.Sought.{marked};
 ghost use Rattle.bz_canonical.specs.Spans.{IsSpannedIn, NamedRule, statement_of};
 ghost use Rattle.bz_canonical.specs.declared.spans.ArgumentSpan.{ArgumentSpan};
 
-/// Of the rule of which `seal` makes the row as many arguments are sealed as do not stay, and it is else the rule. What is sealed has none of the names, and none of the values of which `seal` got the ends.
+/// Of the rule of which `seal` makes the row as many arguments are sealed as do not stay, and it is else the rule. What is
+/// sealed has none of the names, and none of the values of which `seal` got the ends.
 pub fn rules_are_sealed()
     ensures { (names values : List (List ℕ)) (home : Package) (depth : ℕ) (r : NamedRule)
         (stands : List (List ℕ)) (chunk written : List ℕ) (spans : List ArgumentSpan)
