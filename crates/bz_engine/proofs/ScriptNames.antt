@@ -1,5 +1,5 @@
 -- The names that are gathered of a script cover it.
-use Rattle.std.proofs.Common.{◌≡◌, ℕ, Bool, true, false, ◌&&◌, ◌||◌, if◌then◌else◌, List, [], ◌∷◌, ◌++◌, length, map, codes, nat_le, refl, ◌∙◌, ap, subst}
+use Rattle.std.proofs.Common.{◌≡◌, ℕ, Bool, true, false, ◌&&◌, ◌||◌, if◌then◌else◌, List, [], ◌∷◌, ◌++◌, length, map, codes, nat_le, not, option_map, refl, ◌∙◌, ap, subst}
 use Rattle.std.specs.Prelude.{Option, Some, None, bytes_eq, is_some, option_and_then, unwrap_or}
 use Rattle.std.specs.List.{flat_map, list_all}
 use Rattle.std.proofs.lemmas.Bool.{and_parts, false≢true, or_parts}
@@ -7,14 +7,19 @@ use Rattle.std.proofs.lemmas.List.Folds.{list_any-append}
 use Rattle.bz_token.specs.Common.{is_filled, map_or, is_one_of}
 use Rattle.bz_label.specs.Endings.{ending, literal_end}
 use Rattle.bz_label.specs.Labels.{Target}
+use Rattle.bz_label.specs.declared.arguments.Attributes.TheVariants.{Named}
 use Rattle.bz_label.specs.declared.arguments.Chosen.TheVariants.{Values}
+use Rattle.bz_label.specs.declared.arguments.Commented.TheVariants.{Attribute, Value}
+use Rattle.bz_label.specs.declared.arguments.Setting.TheVariants.{ToValues}
 use Rattle.bz_passes.specs.Passes.{Pass}
 use Rattle.bz_attribute.specs.Reports.{chooses}
-use Rattle.bz_rule.specs.Commands.{Command}
+use Rattle.bz_rule.specs.Commands.{Command, is_print}
+use Rattle.bz_rule.specs.OneAttribute.{one_attribute}
+use Rattle.bz_rule.specs.declared.command.Action.TheVariants.{Add, Comment, Remove, Replace, Set, SetIfAbsent}
 use Rattle.bz_rule.specs.Sealed.{attributes_of, is_among, values_sought}
 use Rattle.bz_rule.proofs.NotSeen.{asks_cover, name_covered}
 use Rattle.bz_engine.specs.Outcome.{Run, Script}
-use Rattle.bz_engine.specs.private.Sealed.{asked_names, asked_values, by_each, covers, is_asked_in, is_covered, with_command, with_name, with_pass}
+use Rattle.bz_engine.specs.private.Sealed.{asked_names, asked_values, by_each, covers, is_asked_in, is_covered, leaves_name, with_command, with_name, with_pass}
 use Rattle.bz_engine.proofs.SealedScript.{AsksFor}
 use Rattle.bz_engine.proofs.CanonicalChunks.{bytes_same}
 
@@ -206,3 +211,17 @@ asked_for run some =
 pub closings_are : (values : Names) → map (λ end. end ++ 34 ∷ []) (map ending values) ≡ map literal_end values
 closings_are [] = refl
 closings_are (v ∷ values) = ap (λ ends. literal_end v ∷ ends) (closings_are values)
+
+-- a command with one attribute mentions that
+mentioned : (c : Command) (attr : List ℕ) → one_attribute c ≡ Some attr → attributes_of c ≡ Some (attr ∷ [])
+mentioned (Add a values) attr is = ap (option_map (λ name. name ∷ [])) is
+mentioned (Remove (Named a) (value ∷ values)) attr is = ap (option_map (λ name. name ∷ [])) is
+mentioned (Set (ToValues a values)) attr is = ap (option_map (λ name. name ∷ [])) is
+mentioned (SetIfAbsent a values) attr is = ap (option_map (λ name. name ∷ [])) is
+mentioned (Replace (Named a) old new) attr is = ap (option_map (λ name. name ∷ [])) is
+mentioned (Comment (Attribute a) text) attr is = ap (option_map (λ name. name ∷ [])) is
+mentioned (Comment (Value a value) text) attr is = ap (option_map (λ name. name ∷ [])) is
+mentioned _ attr is = absurd (false≢true (ap is_some is))
+
+pub one_leaves : (c : Command) (attr : List ℕ) → is_print c ≡ false → one_attribute c ≡ Some attr → leaves_name c ≡ not (is_one_of (attr ∷ []) (codes "name"))
+one_leaves c attr none is = λ i. none i || map_or false (λ names. not (is_one_of names (codes "name"))) (mentioned c attr is i)

@@ -12,7 +12,7 @@ use bz_label::{Text, ending};
 use bz_memory::{NoMemory, from_str, push, push_char};
 use bz_passes::pass::Pass;
 use bz_rule::forms::Values;
-use bz_rule::{Command, Target, attributes_of, values_sought};
+use bz_rule::{Command, Target, attributes_of, one_attribute, values_sought};
 use std::alloc::Global;
 
 /// So many names at most are worth looking for in a rule.
@@ -202,11 +202,16 @@ fn all_leave_names(alloc: Global, commands: &[Command]) -> Result<bool, NoMemory
     Ok(true)
 }
 
+#[tactic(auto, using(crate::proofs::ScriptNames::one_leaves))]
 fn leaves_name(alloc: Global, command: &Command) -> Result<bool, NoMemory>
     ensures { IfOk result (λ leaves. leaves ≡ spec.leaves_name command.now) }
 {
     if command.is_print() {
         return Ok(true);
+    }
+    // Most mention one, for which no list is made.
+    if let Some(attr) = one_attribute(command) {
+        return Ok(!are_some_name(&[attr]));
     }
     let Some(names) = attributes_of(alloc, command)? else {
         return Ok(false);
